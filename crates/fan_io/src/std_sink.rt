@@ -1,0 +1,38 @@
+// A writer of the standard library as a sink. It tells no bytes.
+ghost use Rattle.std.specs.Prelude.{◌≡◌, None};
+
+use super::faults::{Failed, next};
+use super::sink::Sink;
+use std::io::Write;
+
+/// A writer as a sink, with a count of its failures. One that takes no byte of a piece counts as failed.
+#[derive(Drop)]
+pub struct StdSink<W> {
+    writer: W,
+    faults: u64,
+}
+
+impl<W: Write> StdSink<W> {
+    /// A sink over a writer; its count of faults is 0.
+    pub fn new(writer: W) -> StdSink<W>
+        ensures { result ≡ record { writer = writer; faults = 0 } }
+    {
+        StdSink { writer, faults: 0 }
+    }
+}
+
+impl<W: Write> Sink for StdSink<W> {
+    ghost held = { λ _. None };
+
+    ghost faults = { λ s. s.faults };
+
+    fn put(&mut self, bytes: &[u8]) -> Result<usize, Failed> {
+        match self.writer.write(bytes) {
+            Ok(count) if count > 0 => Ok(count),
+            _ => {
+                self.faults = next(self.faults);
+                Err(Failed)
+            }
+        }
+    }
+}
