@@ -1,0 +1,34 @@
+// The names of the errors with which a step is refused: errno(3).
+
+/// Why a step was refused, as in the pages fanotify_init(2), fanotify_mark(2), open(2) and rename(2).
+#[derive(Clone, Copy, Debug, PartialEq, Eq)]
+pub enum Errno {
+    /// No such group is open.
+    Ebadf,
+    /// A flag, a mask, a size or a response is out of form.
+    Einval,
+    /// There is no such file, filesystem or mark, or no event waits under that descriptor.
+    Enoent,
+    /// A directory was wanted.
+    Enotdir,
+    /// A directory was not wanted.
+    Eisdir,
+    /// The name or the number is taken.
+    Eexist,
+    /// The directory has entries.
+    Enotempty,
+    /// A mount or an open access is in the way.
+    Ebusy,
+    /// The two paths are on different mounts.
+    Exdev,
+    /// No object number or no mark is left.
+    Enospc,
+    /// Too many groups are open.
+    Emfile,
+    /// Nothing is queued.
+    Eagain,
+    /// No such access is open.
+    Esrch,
+    /// A directory cannot be executed.
+    Eacces,
+}
