@@ -1,0 +1,3 @@
+pub mod Bounded
+pub mod Reading
+pub mod Steps

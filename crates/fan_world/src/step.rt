@@ -46,6 +46,8 @@ pub enum Reply {
 pub enum StepOutcome {
     /// The group was told, and the event is queued.
     Queued(u32),
+    /// The group is not open, and the access goes on.
+    Closed(u32),
     /// The access is finished.
     Done,
 }
