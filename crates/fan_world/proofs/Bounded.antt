@@ -18,19 +18,22 @@ within_from_slice_get (y ∷ ys) (suc place) x here = omega (arith, within_from_
 -- a bound that holds still holds a step later
 pub bounded_later : (steps : ℕ) (queues : List QueueState) → AreBounded steps queues → AreBounded (steps + 1) queues
 bounded_later steps queues bounded = record {
-    count = omega (arith, bounded.count);
-    each = λ place other within. omega (arith, bounded.each place other within) }
+  count = omega (arith, bounded.count);
+  each = λ place other within. omega (arith, bounded.each place other within);
+}
 
 bounded_set : (steps place : ℕ) (queues : List QueueState) (queue : QueueState) → IsBounded steps queue → AreBounded steps queues → AreBounded steps (set queues place queue)
 bounded_set steps place queues queue here bounded = record {
-    count = simp length-set bounded.count;
-    each = All-set (IsBounded steps) queues place queue here bounded.each }
+  count = simp length-set bounded.count;
+  each = All-set (IsBounded steps) queues place queue here bounded.each;
+}
 
 -- a new group's queue is empty
 pub bounded_init : (steps : ℕ) (queues : List QueueState) → AreBounded steps queues → AreBounded (steps + 1) (queues ++ empty_queue ∷ [])
 bounded_init steps queues bounded = record {
-    count = simp length-append (omega (arith, bounded.count));
-    each = All-push (IsBounded (steps + 1)) queues empty_queue (bounded_later steps queues bounded).each (omega arith) }
+  count = simp length-append (omega (arith, bounded.count));
+  each = All-push (IsBounded (steps + 1)) queues empty_queue (bounded_later steps queues bounded).each (omega arith);
+}
 
 -- what is at a place keeps its bound
 bounded_at : (steps place : ℕ) (queues : List QueueState) (queue : QueueState) → AreBounded steps queues → slice_get queues place ≡ Some queue → IsBounded steps queue
@@ -75,8 +78,9 @@ fitting_most : (size : ℕ) (events : List Event) → length (fitting size event
 fitting_most size [] = omega arith
 fitting_most size (event ∷ events) =
     elim (ltb size 24) as (λ small. length (cond small [] (event ∷ fitting (size - 24) events)) ≤ length (event ∷ events)) [
-        true ↦ omega arith
-      | false ↦ omega (arith, fitting_most (size - 24) events) ]
+      | true ↦ omega arith
+      | false ↦ omega (arith, fitting_most (size - 24) events)
+    ]
 
 kept_by : (queue after : QueueState) (events read : List Event) (bytes : List ℕ) → length read ≤ length queue.events → read_by queue events read ≡ Ok (bytes, after) → after.next_fd + length after.events ≤ queue.next_fd + length queue.events
 kept_by queue after [] read bytes most given = absurd (cc)

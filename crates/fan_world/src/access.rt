@@ -35,12 +35,13 @@ impl Model for Access {
     ghost Value = { AccessState };
 
     ghost view = { λ a. record {
-        number = a.opening.number;
-        object = a.object;
-        pid = a.opening.pid;
-        tid = a.opening.tid;
-        marks = a.marks.items;
-        told = a.told } };
+      number = a.opening.number;
+      object = a.object;
+      pid = a.opening.pid;
+      tid = a.opening.tid;
+      marks = a.marks.items;
+      told = a.told;
+    } };
 
     ghost invariant = { λ a. a.groups.items ≡ told_groups a.marks.items a.object };
 }

@@ -84,7 +84,12 @@ pub(crate) fn read_group(
 }
 
 // Reads the queue at a place.
-fn read_at(alloc: Global, queues: &mut Vec<Queue>, place: usize, size: u32) -> Result<Reply, NoMemory>
+fn read_at(
+    alloc: Global,
+    queues: &mut Vec<Queue>,
+    place: usize,
+    size: u32,
+) -> Result<Reply, NoMemory>
     requires within { place < length queues.old.items }
     requires bounded { AreBounded (2 ^ 30) queues.old.items }
     ensures ok { IfOk result (λ reply. IfSome (slice_get queues.old.items place) (λ queue.

@@ -35,30 +35,36 @@ pub(crate) fn add_mark(alloc: Global, marks: &mut Vec<Mark>, mark: Mark) -> Resu
 fn before(alloc: Global, marks: &[Mark], mark: Mark) -> Result<Vec<Mark>, NoMemory>
     ensures { IfOk result (λ found. found.items ≡ filter (λ other. is_before other mark) marks.now) }
 {
-    Ok(marks
-        .iter()
-        .copied()
-        .filter(|other| stands_before(*other, mark))
-        .collect(alloc)?)
+    Ok(
+        marks
+            .iter()
+            .copied()
+            .filter(|other| stands_before(*other, mark))
+            .collect(alloc)?,
+    )
 }
 
 fn behind(alloc: Global, marks: &[Mark], mark: Mark) -> Result<Vec<Mark>, NoMemory>
     ensures { IfOk result (λ found. found.items ≡ filter (λ other. is_before mark other) marks.now) }
 {
-    Ok(marks
-        .iter()
-        .copied()
-        .filter(|other| stands_before(mark, *other))
-        .collect(alloc)?)
+    Ok(
+        marks
+            .iter()
+            .copied()
+            .filter(|other| stands_before(mark, *other))
+            .collect(alloc)?,
+    )
 }
 
 /// The groups that want to be told of an object, by rising number.
 pub(crate) fn groups_on(alloc: Global, marks: &[Mark], object: u32) -> Result<Vec<u32>, NoMemory>
     ensures { IfOk result (λ groups. groups.items ≡ told_groups marks.now object) }
 {
-    Ok(marks
-        .iter()
-        .filter(|mark| mark.object == object)
-        .map(|mark| mark.group)
-        .collect(alloc)?)
+    Ok(
+        marks
+            .iter()
+            .filter(|mark| mark.object == object)
+            .map(|mark| mark.group)
+            .collect(alloc)?,
+    )
 }

@@ -6,11 +6,16 @@ use fan_io::Items;
 #[derive(Debug, Drop)]
 pub enum Step {
     /// Makes a regular file at a path.
-    MkFile { path: Items<u8> },
+    MkFile {
+        path: Items<u8>,
+    },
     /// Makes a group: fanotify_init(2) with flags 0.
     Init,
     /// Adds the bit FAN_OPEN to the mark of a group on a file: fanotify_mark(2).
-    Mark { group: u32, path: Items<u8> },
+    Mark {
+        group: u32,
+        path: Items<u8>,
+    },
     /// Begins the opening of a file by a process and a thread of it.
     Begin {
         access: u32,
@@ -19,9 +24,14 @@ pub enum Step {
         path: Items<u8>,
     },
     /// Does the next single step of an access.
-    Advance { access: u32 },
+    Advance {
+        access: u32,
+    },
     /// Reads the events of a group into a buffer of `size` bytes: fanotify(7).
-    Read { group: u32, size: u32 },
+    Read {
+        group: u32,
+        size: u32,
+    },
 }
 
 /// What the machine answers to a step.

@@ -36,18 +36,21 @@ impl Model for World {
     ghost Value = { MachineState };
 
     ghost view = { λ w. record {
-        state = record {
-            files = w.files.items;
-            next_object = w.next_object;
-            queues = w.queues.items;
-            marks = w.marks.items;
-            accesses = w.accesses.items;
-            last_access = w.last_access };
-        steps = w.steps } };
+      state = record {
+        files = w.files.items;
+        next_object = w.next_object;
+        queues = w.queues.items;
+        marks = w.marks.items;
+        accesses = w.accesses.items;
+        last_access = w.last_access;
+      };
+      steps = w.steps;
+    } };
 
     ghost invariant = { λ w. record {
-        queues : AreBounded w.steps w.queues.items;
-        objects : w.next_object ≤ 65536 } };
+      queues : AreBounded w.steps w.queues.items;
+      objects : w.next_object ≤ 65536;
+    } };
 }
 
 impl World {

@@ -6,4 +6,5 @@ use Rattle.fan_world.proofs.queue.write_records.Given as goal
 abbrev pub invariant-loop-event : goal.invariant-loop-event
 invariant-loop-event l = record {
   counted : l.fd ≡ l.first_fd + l.event-index;
-  written : l.out.items ++ records l.fd (drop l.event-index l.events) ≡ records l.first_fd l.events }
+  written : l.out.items ++ records l.fd (drop l.event-index l.events) ≡ records l.first_fd l.events;
+}
