@@ -15,6 +15,7 @@ loop-at-preserved g c =
     let fits = rw take_rest at c.in_ok-count.ensures.within in
     let here = rw take_rest at c.in_ok-count.ensures.bytes in
     record {
-        within = omega (arith, fits, length-drop at bytes);
-        put = put_more _ _ _ bytes at c.in_ok-count.count c.loop-at.invariant.put here;
-        later = omega (arith, c.loop-at.invariant.later, c.in_ok-count.ensures.cause.kept) }
+      within = omega (arith, fits, length-drop at bytes);
+      put = put_more _ _ _ bytes at c.in_ok-count.count c.loop-at.invariant.put here;
+      later = omega (arith, c.loop-at.invariant.later, c.in_ok-count.ensures.cause.kept);
+    }
