@@ -1,5 +1,5 @@
 // Sources and sinks that fail, stop at the limit, or move a piece in parts.
-ghost use Rattle.std.specs.Prelude.{None};
+ghost use Rattle.std.specs.Prelude.{◌≤◌, None, length};
 
 use super::{
     Failed, MemSink, MemSource, Sink, Source, StdSink, StdSource, TakeRefused, put_all, take_all,
@@ -18,7 +18,9 @@ struct Pieces {
 }
 
 // Gives the next piece, and answers its length.
-fn next_piece(bytes: &mut &'static [u8], into: &mut [u8]) -> usize {
+fn next_piece(bytes: &mut &'static [u8], into: &mut [u8]) -> usize
+    ensures { result ≤ length into.old }
+{
     let count = bytes.len().min(into.len()).min(WIDTH);
     into[..count].copy_from_slice(&bytes[..count]);
     *bytes = &bytes[count..];

@@ -1,5 +1,4 @@
-use Rattle.std.proofs.Common.{◌≤◌, length, drop, take, arith, rules, length-drop}
-use Rattle.std.specs.Io.KnownBytes.{Appends, Keeps}
+use Rattle.std.proofs.Common.{arith, length-drop}
 use Rattle.std.proofs.lemmas.List.{take_rest}
 use Rattle.fan_io.proofs.Pieces.{put_more, front_at_failure}
 use Rattle.fan_io.proofs.sink.put_all.Goals as goal
