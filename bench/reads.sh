@@ -21,7 +21,7 @@ trap 'rm -f -- "$script" "$measured"' EXIT
 
 cat -- "$top/examples/first.fan" >"$script"
 lines=$(((bytes - $(stat -c %s -- "$script")) / (${#line} + 1)))
-{ yes "$line" || true; } | head -n "$lines" >>"$script"
+yes "$line" | head -n "$lines" >>"$script"
 
 # the first call builds what is missing, and is not measured
 "$top/fanwatch" script <"$top/examples/first.fan" >/dev/null
