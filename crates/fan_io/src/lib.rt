@@ -18,3 +18,6 @@ pub use sink::{Sink, put_all};
 pub use source::{Source, TakeRefused, take_all};
 pub use std_sink::StdSink;
 pub use std_source::StdSource;
+
+#[cfg(test)]
+mod tests;

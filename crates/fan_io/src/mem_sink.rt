@@ -1,7 +1,7 @@
 // A sink that keeps its bytes in memory, and some of whose calls fail.
-ghost use Rattle.std.specs.Prelude.{◌≡◌, ℕ, ◌<◌, ◌≤◌, [], Some, length, Contains, IfOk, IsErr, is_ok, if◌then◌else◌};
+ghost use Rattle.std.specs.Prelude.{◌≡◌, ℕ, ◌<◌, ◌≤◌, [], Some, length, Contains, IfOk, IsErr};
 ghost use Rattle.std.specs.Io.KnownBytes.{WriteAppends};
-ghost use Rattle.fan_io.specs.Faults.{HasCause, next_count};
+ghost use Rattle.fan_io.specs.Faults.{CountsFault, HasCause, next_count};
 
 use super::faults::{Failed, next};
 use super::sink::Sink;
@@ -23,15 +23,16 @@ impl Model for MemSink {
     ghost Value = { MemSinkState };
 
     ghost view = { λ s. record {
-        held = s.bytes.items;
-        failing = s.failing.items;
-        calls = s.calls;
-        faults = s.faults } };
+      held = s.bytes.items;
+      failing = s.failing.items;
+      calls = s.calls;
+      faults = s.faults;
+    } };
 }
 
 impl MemSink {
-    /// An empty sink. The calls of `put` whose numbers stand in `failing`, counted from 1, fail. So does
-    /// one that finds no memory for its piece.
+    /// An empty sink. The calls of `put` whose numbers stand in `failing`, counted from 1, fail.
+    /// So does one that finds no memory for its piece.
     pub fn new(alloc: Global, failing: Vec<u64>) -> MemSink
         ensures { result ≡ record { held = []; failing = failing.items; calls = 0; faults = 0 } }
     {
@@ -66,7 +67,7 @@ impl Sink for MemSink {
         ensures whole { IfOk result (λ count. count ≡ length bytes.now) }
         ensures plan { self.new.failing ≡ self.old.failing }
         ensures calls { self.new.calls ≡ next_count self.old.calls }
-        ensures faults { self.new.faults ≡ (if is_ok result then self.old.faults else next_count self.old.faults) }
+        ensures faults { CountsFault self.old.faults self.new.faults result }
     {
         self.calls = next(self.calls);
         if self.failing.contains(&self.calls) || self.bytes.extend_from_slice(bytes).is_err() {

@@ -1,7 +1,7 @@
 // A source over bytes in memory, some of whose calls fail.
-ghost use Rattle.std.specs.Prelude.{◌≡◌, ◌↔◌, ℕ, ◌<◌, ◌≤◌, [], Some, length, min, take, Contains, IfOk, IsErr, is_ok, if◌then◌else◌};
+ghost use Rattle.std.specs.Prelude.{◌≡◌, ◌↔◌, ℕ, ◌<◌, ◌≤◌, [], Some, length, min, take, Contains, IfOk, IsErr};
 ghost use Rattle.std.specs.Io.KnownBytes.{ReadConsumes};
-ghost use Rattle.fan_io.specs.Faults.{HasCause, next_count};
+ghost use Rattle.fan_io.specs.Faults.{CountsFault, HasCause, next_count};
 
 use super::faults::{Failed, next};
 use super::source::Source;
@@ -24,19 +24,25 @@ impl Model for MemSource {
     ghost Value = { MemSourceState };
 
     ghost view = { λ s. record {
-        left = drop s.at s.bytes.items;
-        failing = s.failing.items;
-        calls = s.calls;
-        faults = s.faults } };
+      left = drop s.at s.bytes.items;
+      failing = s.failing.items;
+      calls = s.calls;
+      faults = s.faults;
+    } };
 
     ghost invariant = { λ s. s.at ≤ length s.bytes.items };
 }
 
 impl MemSource {
-    /// A source of these bytes. The calls of `take` whose numbers stand in `failing`, counted from 1, fail.
+    /// A source of these bytes. The calls of `take` whose numbers stand in `failing`, counted
+    /// from 1, fail.
     pub fn new(bytes: Vec<u8>, failing: Vec<u64>) -> MemSource
         ensures { result ≡ record {
-            left = bytes.items; failing = failing.items; calls = 0; faults = 0 } }
+          left = bytes.items;
+          failing = failing.items;
+          calls = 0;
+          faults = 0;
+        } }
     {
         MemSource {
             bytes,
@@ -59,10 +65,11 @@ impl Source for MemSource {
         ensures bytes { ReadConsumes (Some self.old.left) (Some self.new.left) result into.new }
         ensures cause { HasCause self.old.faults self.new.faults result }
         ensures fails { IsErr result ↔ Contains self.old.failing (next_count self.old.calls) }
-        ensures most { IfOk result (λ count. count ≡ min (length into.old) (length self.old.left)) }
+        ensures most { IfOk result (λ count.
+            count ≡ min (length into.old) (length self.old.left)) }
         ensures plan { self.new.failing ≡ self.old.failing }
         ensures calls { self.new.calls ≡ next_count self.old.calls }
-        ensures faults { self.new.faults ≡ (if is_ok result then self.old.faults else next_count self.old.faults) }
+        ensures faults { CountsFault self.old.faults self.new.faults result }
     {
         self.calls = next(self.calls);
         if self.failing.contains(&self.calls) {

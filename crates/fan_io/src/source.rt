@@ -41,19 +41,23 @@ pub enum TakeRefused {
 
 const PIECE: usize = 4096;
 
-/// All bytes to the end of the source. `TooLong` comes exactly where it gave more than `limit` bytes,
-/// `Failed` only where its count of faults rose.
+/// All bytes to the end of the source. `TooLong` comes exactly where it gave more than `limit`
+/// bytes, `Failed` only where its count of faults rose.
 pub fn take_all<S: Source>(
     alloc: Global,
     source: &mut S,
     limit: usize,
 ) -> Result<Vec<u8>, TakeRefused>
-    ensures whole { IfOk result (λ all. Consumes (S.left source.old) (S.left source.new) all.items) }
+    ensures whole { IfOk result (λ all.
+        Consumes (S.left source.old) (S.left source.new) all.items) }
     ensures end { OnOk result (IsAtEnd (S.left source.new)) }
     ensures room { IfOk result (λ all. length all.items ≤ limit) }
-    ensures too_long { result ≡ Err TakeRefused.TooLong → GaveMore (S.left source.old) (S.left source.new) limit }
-    ensures not_too_long { result ≢ Err TakeRefused.TooLong → GaveAtMost (S.left source.old) (S.left source.new) limit }
-    ensures failed { result ≡ Err TakeRefused.Failed → Rose (S.faults source.old) (S.faults source.new) }
+    ensures too_long { result ≡ Err TakeRefused.TooLong →
+        GaveMore (S.left source.old) (S.left source.new) limit }
+    ensures not_too_long { result ≢ Err TakeRefused.TooLong →
+        GaveAtMost (S.left source.old) (S.left source.new) limit }
+    ensures failed { result ≡ Err TakeRefused.Failed →
+        Rose (S.faults source.old) (S.faults source.new) }
     ensures kept { S.faults source.old ≤ S.faults source.new }
 {
     let mut all = Vec::new(alloc);

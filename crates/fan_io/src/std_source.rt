@@ -1,5 +1,7 @@
-// A reader of the standard library as a source. It tells no bytes.
-ghost use Rattle.std.specs.Prelude.{◌≡◌, None};
+// A reader of the standard library as a source. It tells the bytes that the reader tells.
+ghost use Rattle.std.specs.Prelude.{◌≡◌, ◌<◌, ◌≤◌, length, IfOk};
+ghost use Rattle.std.specs.Io.KnownBytes.{ReadConsumes};
+ghost use Rattle.fan_io.specs.Faults.{CountsFault, HasCause};
 
 use super::faults::{Failed, next};
 use super::source::Source;
@@ -22,11 +24,18 @@ impl<R: Read> StdSource<R> {
 }
 
 impl<R: Read> Source for StdSource<R> {
-    ghost left = { λ _. None };
+    ghost left = { λ s. R.remaining s.reader };
 
     ghost faults = { λ s. s.faults };
 
-    fn take(&mut self, into: &mut [u8]) -> Result<usize, Failed> {
+    fn take(&mut self, into: &mut [u8]) -> Result<usize, Failed>
+        requires { 0 < length into.old }
+        ensures within { IfOk result (λ count. count ≤ length into.new) }
+        ensures bytes { ReadConsumes
+            (R.remaining self.old.reader) (R.remaining self.new.reader) result into.new }
+        ensures cause { HasCause self.old.faults self.new.faults result }
+        ensures faults { CountsFault self.old.faults self.new.faults result }
+    {
         match self.reader.read(into) {
             Ok(count) => Ok(count),
             Err(_) => {

@@ -1,5 +1,4 @@
-use Rattle.std.proofs.Common.{◌≤◌, length, drop, take, arith, rules, length-drop}
-use Rattle.std.specs.Io.KnownBytes.{Appends, Keeps}
+use Rattle.std.proofs.Common.{arith, length-drop}
 use Rattle.std.proofs.lemmas.List.{take_rest}
 use Rattle.fan_io.proofs.Pieces.{put_more, front_at_failure}
 use Rattle.fan_io.proofs.sink.put_all.Goals as goal
@@ -15,6 +14,7 @@ loop-at-preserved g c =
     let fits = rw take_rest at c.in_ok-count.ensures.within in
     let here = rw take_rest at c.in_ok-count.ensures.bytes in
     record {
-        within = omega (arith, fits, length-drop at bytes);
-        put = put_more _ _ _ bytes at c.in_ok-count.count c.loop-at.invariant.put here;
-        later = omega (arith, c.loop-at.invariant.later, c.in_ok-count.ensures.cause.kept) }
+      within = omega (arith, fits, length-drop at bytes);
+      put = put_more _ _ _ bytes at c.in_ok-count.count c.loop-at.invariant.put here;
+      later = omega (arith, c.loop-at.invariant.later, c.in_ok-count.ensures.cause.kept);
+    }

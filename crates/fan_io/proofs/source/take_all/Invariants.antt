@@ -7,7 +7,8 @@ abbrev pub invariant-loop-count : goal.invariant-loop-count
 invariant-loop-count g l = record {
   within : vec_len l.all ≤ l.limit;
   given : Consumes (g.S.Source.left l.fn.source) (g.S.Source.left l.source) l.all.items;
-  later : g.S.Source.faults l.fn.source ≤ g.S.Source.faults l.source; }
+  later : g.S.Source.faults l.fn.source ≤ g.S.Source.faults l.source;
+}
 
 abbrev pub decreases-loop-count : goal.decreases-loop-count
 decreases-loop-count g l = l.limit - vec_len l.all
