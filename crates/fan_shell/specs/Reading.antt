@@ -1,7 +1,8 @@
 -- Reading a line word by word, one function for each function of the reader. No caller has to believe it.
 use Rattle.std.specs.Prelude.{◌≡◌, ℕ, ◌+◌, Bool, true, false, not, ◌&&◌, List, [], ◌∷◌, length, take, drop, Option, Some, None, Result, Ok, Err, nat_lt, nat_le, ◌==◌, if◌then◌else◌, option_and_then, position, slice_index, codes}
+use Rattle.std.specs.Char.{is_ascii_digit}
 use Rattle.std.specs.List.{list_all}
-use Rattle.std.specs.Str.{all_ascii_digits, bytes_eq}
+use Rattle.std.specs.Str.{bytes_eq}
 use Rattle.std.specs.Str.Parse.{digits_value}
 use Rattle.fan_world.specs.declared.step.Step.TheVariants.{MkFile, Init, Mark, Begin, Read}
 use Rattle.fan_shell.specs.declared.line.Line.{Line}
@@ -41,7 +42,7 @@ is_decimal word =
     if length word == 0 then false
     else (if nat_lt 10 (length word) then false
     else (if slice_index word 0 == 48 then length word == 1
-    else all_ascii_digits word))
+    else list_all is_ascii_digit word))
 
 -- the number that a word spells, where it is from least to most
 unfoldable pub number_at : ℕ → ℕ → List ℕ → Option ℕ

@@ -7,4 +7,4 @@ mod numbers;
 mod paths;
 mod words;
 
-pub use line::{Line, LineRefused, read_line};
+pub use line::{Line, LineRefused, at_most_one_line, read_line};

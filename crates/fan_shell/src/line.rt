@@ -1,5 +1,6 @@
 // A line of a script, and how it is read.
 ghost use Rattle.std.specs.Prelude.{◌≡◌, ◌≤◌, List, ℕ, length, IfOk, OnOk};
+ghost use Rattle.fan_shell.specs.Lines.{LineOf};
 ghost use Rattle.fan_shell.specs.Reading.{Gives, line_at};
 
 use crate::forms::form;
@@ -44,9 +45,19 @@ fn read_words(alloc: Global, bytes: &[u8]) -> Result<Line, LineRefused>
     form(alloc, name, fields)
 }
 
-/// Reads one line, its bytes without the LF.
+/// Reads one line, its bytes without the LF. The words are separated by one space each; a path is a
+/// slash and one name of 1 to 255 visible bytes of ASCII, and numbers are decimals without leading zeros.
+/// `BadLine` comes exactly where the bytes are no line, `NoMemory` where none is found for a path.
 pub fn read_line(alloc: Global, line: &[u8]) -> Result<Line, LineRefused>
-    ensures { Gives (λ x. x) result (line_at line.now) }
+    ensures found { IfOk result (λ read. LineOf line.now read) }
+    ensures bad { result ≡ Err LineRefused.BadLine → (read : Line) → LineOf line.now read → ⊥ }
+    ensures long { OnOk result (5 ≤ length line.now) }
 {
     read_words(alloc, line)
+}
+
+/// A list of bytes is at most one line.
+pub fn at_most_one_line()
+    ensures { (bytes : List ℕ) (a b : Line) → LineOf bytes a → LineOf bytes b → a ≡ b }
+{
 }

@@ -1,8 +1,8 @@
 // Decimal numbers in words.
-ghost use Rattle.std.specs.Prelude.{◌≡◌, ◌≤◌, length};
-ghost use Rattle.std.specs.Str.{all_ascii_digits};
+ghost use Rattle.std.specs.Prelude.{◌≡◌, ◌≤◌, length, IsTrue};
+ghost use Rattle.std.specs.Char.{is_ascii_digit};
+ghost use Rattle.std.specs.List.{list_all};
 ghost use Rattle.std.specs.Str.Parse.{digits_value};
-ghost use Rattle.std.specs.Prelude.{IsTrue};
 ghost use Rattle.fan_shell.specs.Reading.{Gives, is_decimal, number_at, number_and_rest};
 
 use crate::line::LineRefused;
@@ -25,12 +25,18 @@ fn is_decimal(word: &[u8]) -> bool
     if word[0] == b'0' {
         return word.len() == 1;
     }
-    word.iter().all(|byte| byte.is_ascii_digit())
+    are_digits(word)
+}
+
+fn are_digits(bytes: &[u8]) -> bool
+    ensures { result ≡ list_all is_ascii_digit bytes.now }
+{
+    bytes.iter().all(|byte| byte.is_ascii_digit())
 }
 
 // The number that at most ten digits spell.
 fn digits_value(digits: &[u8]) -> u64
-    requires digits { IsTrue (all_ascii_digits digits.now) }
+    requires digits { IsTrue (list_all is_ascii_digit digits.now) }
     requires short { length digits.now ≤ 10 }
     ensures { result ≡ digits_value 10 digits.now }
 {

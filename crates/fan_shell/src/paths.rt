@@ -1,5 +1,6 @@
 // Paths: a slash and one name.
 ghost use Rattle.std.specs.Prelude.{◌≡◌};
+ghost use Rattle.std.specs.List.{list_all};
 ghost use Rattle.fan_shell.specs.Reading.{Gives, is_name_byte, is_name, is_path, path_at};
 
 use crate::line::LineRefused;
@@ -31,7 +32,13 @@ fn is_name(name: &[u8]) -> bool
     if name == b"..".as_slice() {
         return false;
     }
-    name.iter().all(|byte| is_name_byte(*byte))
+    are_name_bytes(name)
+}
+
+fn are_name_bytes(bytes: &[u8]) -> bool
+    ensures { result ≡ list_all is_name_byte bytes.now }
+{
+    bytes.iter().all(|byte| is_name_byte(*byte))
 }
 
 #[tactic(auto, unfolding(crate::specs::Reading::is_path))]
