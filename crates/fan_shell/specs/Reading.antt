@@ -1,0 +1,132 @@
+-- Reading a line word by word, one function for each function of the reader. No caller has to believe it.
+use Rattle.std.specs.Prelude.{◌≡◌, ℕ, ◌+◌, Bool, true, false, not, ◌&&◌, List, [], ◌∷◌, length, take, drop, Option, Some, None, Result, Ok, Err, nat_lt, nat_le, ◌==◌, if◌then◌else◌, option_and_then, position, slice_index, codes}
+use Rattle.std.specs.Char.{is_ascii_digit}
+use Rattle.std.specs.List.{list_all}
+use Rattle.std.specs.Str.{bytes_eq}
+use Rattle.std.specs.Str.Parse.{digits_value}
+use Rattle.fan_world.specs.declared.step.Step.TheVariants.{MkFile, Init, Mark, Begin, Read}
+use Rattle.fan_shell.specs.declared.line.Line.{Line}
+use Rattle.fan_shell.specs.declared.line.Line.TheVariants.{One, Run}
+use Rattle.fan_shell.specs.declared.line.LineRefused.{LineRefused}
+use Rattle.fan_shell.specs.declared.line.LineRefused.TheVariants.{BadLine, NoMemory}
+
+infixl 10 ◌>>=◌
+abbrev pub ◌>>=◌ : {A B : Type 0} → Option A → (A → Option B) → Option B
+read >>= then_read = option_and_then then_read read
+
+-- a refusal is right where nothing is read, or memory ran out
+abbrev pub IsRefused : {B : Type 0} → LineRefused → Option B → Type 0
+IsRefused BadLine read = read ≡ None
+IsRefused NoMemory read = Unit {0}
+
+-- a function gave what is read, as view shows it, or was refused
+abbrev pub Gives : {A B : Type 0} → (A → B) → Result A LineRefused → Option B → Type 0
+Gives view (Ok value) read = read ≡ Some (view value)
+Gives view (Err refused) read = IsRefused refused read
+
+-- the bytes before the first space, and those behind it
+unfoldable pub split_at_space : List ℕ → Option (List ℕ × List ℕ)
+split_at_space bytes = do
+  at ← position (λ byte. byte == 32) bytes
+  Some (take at bytes, drop (at + 1) bytes)
+
+-- the bytes behind this word and a space
+unfoldable pub rest_after : List ℕ → List ℕ → Option (List ℕ)
+rest_after word bytes = do
+  parts ← split_at_space bytes
+  if bytes_eq parts.0 word then Some parts.1 else None
+
+-- at most ten digits, and no leading zero
+unfoldable pub is_decimal : List ℕ → Bool
+is_decimal word =
+    if length word == 0 then false
+    else (if nat_lt 10 (length word) then false
+    else (if slice_index word 0 == 48 then length word == 1
+    else list_all is_ascii_digit word))
+
+-- the number that a word spells, where it is from least to most
+unfoldable pub number_at : ℕ → ℕ → List ℕ → Option ℕ
+number_at least most word =
+    if not (is_decimal word) then None
+    else (if nat_lt (digits_value 10 word) least then None
+    else (if nat_lt most (digits_value 10 word) then None
+    else Some (digits_value 10 word)))
+
+-- the number that the first word spells, and the bytes behind its space
+unfoldable pub number_and_rest : ℕ → ℕ → List ℕ → Option (ℕ × List ℕ)
+number_and_rest least most bytes = do
+  parts ← split_at_space bytes
+  number ← number_at least most parts.0
+  Some (number, parts.1)
+
+-- a visible byte of ASCII that is no slash
+abbrev pub is_name_byte : ℕ → Bool
+is_name_byte byte = nat_le 33 byte && nat_le byte 126 && not (byte == 47)
+
+unfoldable pub is_name : List ℕ → Bool
+is_name name =
+    if length name == 0 then false
+    else (if nat_lt 255 (length name) then false
+    else (if bytes_eq name (codes ".") then false
+    else (if bytes_eq name (codes "..") then false
+    else list_all is_name_byte name)))
+
+unfoldable pub is_path : List ℕ → Bool
+is_path [] = false
+is_path (first ∷ name) = if first == 47 then is_name name else false
+
+unfoldable pub path_at : List ℕ → Option (List ℕ)
+path_at word = if is_path word then Some word else None
+
+unfoldable pub mkfile_at : List ℕ → Option Line
+mkfile_at fields = do
+  path ← path_at fields
+  Some (One (MkFile path))
+
+unfoldable pub init_at : List ℕ → Option Line
+init_at fields = if bytes_eq fields (codes "0") then Some (One Init) else None
+
+unfoldable pub mark_at : List ℕ → Option Line
+mark_at fields = do
+  group ← number_and_rest 1 4294967295 fields
+  mask ← rest_after (codes "1") group.1
+  last ← rest_after (codes "20") mask
+  path ← path_at last
+  Some (One (Mark group.0 path))
+
+unfoldable pub begin_at : List ℕ → Option Line
+begin_at fields = do
+  access ← number_and_rest 1 4294967295 fields
+  pid ← number_and_rest 1 2147483647 access.1
+  tid ← number_and_rest 1 2147483647 pid.1
+  last ← rest_after (codes "open") tid.1
+  path ← path_at last
+  Some (One (Begin access.0 pid.0 tid.0 path))
+
+unfoldable pub run_at : List ℕ → Option Line
+run_at fields = do
+  access ← number_at 1 4294967295 fields
+  Some (Run access)
+
+unfoldable pub read_at : List ℕ → Option Line
+read_at fields = do
+  group ← number_and_rest 1 4294967295 fields
+  size ← number_at 0 1048576 group.1
+  Some (One (Read group.0 size))
+
+-- the line with this first word, by its fields
+unfoldable pub form_at : List ℕ → List ℕ → Option Line
+form_at name fields =
+    if bytes_eq name (codes "mkfile") then mkfile_at fields
+    else (if bytes_eq name (codes "init") then init_at fields
+    else (if bytes_eq name (codes "mark") then mark_at fields
+    else (if bytes_eq name (codes "begin") then begin_at fields
+    else (if bytes_eq name (codes "run") then run_at fields
+    else (if bytes_eq name (codes "read") then read_at fields
+    else None)))))
+
+-- the line that the bytes spell
+unfoldable pub line_at : List ℕ → Option Line
+line_at bytes = do
+  parts ← split_at_space bytes
+  form_at parts.0 parts.1
