@@ -4,11 +4,14 @@ use Rattle.std.specs.Prelude.{slice_get, slice_set, remove, All}
 use Rattle.std.proofs.lemmas.List.Elements.{All-set, All-push}
 use Rattle.std.proofs.lemmas.Option.{get_or_from_slice_get}
 use Rattle.fan_bits.specs.declared.errno.Errno.{Errno}
+use Rattle.fan_bits.specs.declared.errno.Errno.TheVariants as errno
 use Rattle.fan_world.specs.declared.queue.Event.{Event}
+use Rattle.fan_world.specs.declared.step.Reply.{Reply}
+use Rattle.fan_world.specs.declared.step.Reply.TheVariants as replies
 use Rattle.fan_world.specs.Accesses.{AccessState, next_told, told_one, event_of, place_of}
 use Rattle.fan_world.specs.Bounds.{IsBounded, AreBounded}
 use Rattle.fan_world.specs.Queue.{QueueState, empty_queue, records, fitting, read_by, read_of, queued, after_reading}
-use Rattle.fan_world.specs.World.{queue_at, told, told_to, stepped, stepped_at, advanced, advanced_at, read_answer, read_at, read_from}
+use Rattle.fan_world.specs.World.{grouped, most_groups, queue_at, told, told_to, stepped, stepped_at, advanced, advanced_at, read_answer, read_at, read_from}
 
 within_from_slice_get : {A : Type 0} (xs : List A) (place : ℕ) (x : A) → slice_get xs place ≡ Some x → place < length xs
 within_from_slice_get [] place x here = absurd (cc)
@@ -29,11 +32,19 @@ bounded_set steps place queues queue here bounded = record {
 }
 
 -- a new group's queue is empty
-pub bounded_init : (steps : ℕ) (queues : List QueueState) → AreBounded steps queues → AreBounded (steps + 1) (queues ++ empty_queue ∷ [])
-bounded_init steps queues bounded = record {
+bounded_new : (steps : ℕ) (queues : List QueueState) → AreBounded steps queues → AreBounded (steps + 1) (queues ++ empty_queue ∷ [])
+bounded_new steps queues bounded = record {
   count = simp length-append (omega (arith, bounded.count));
   each = All-push (IsBounded (steps + 1)) queues empty_queue (bounded_later steps queues bounded).each (omega arith);
 }
+
+-- there is one group more at most
+pub bounded_group : (steps : ℕ) (queues : List QueueState) → AreBounded steps queues → AreBounded (steps + 1) (grouped queues).1
+unfolding grouped
+bounded_group steps queues bounded =
+    elim (ltb (length queues) most_groups) as (λ (few : Bool). AreBounded (steps + 1) (cond {A = Reply × List QueueState} few (replies.Group (length queues + 1), queues ++ empty_queue ∷ []) (replies.Refused errno.Emfile, queues)).1) [
+        true ↦ bounded_new steps queues bounded
+      | false ↦ bounded_later steps queues bounded ]
 
 -- what is at a place keeps its bound
 bounded_at : (steps place : ℕ) (queues : List QueueState) (queue : QueueState) → AreBounded steps queues → slice_get queues place ≡ Some queue → IsBounded steps queue

@@ -46,6 +46,16 @@ made_at None files next path =
 unfoldable pub made : List File → ℕ → List ℕ → Reply × List File × ℕ
 made files next path = made_at (object_at files path) files next path
 
+-- how many groups may be open
+abbrev pub most_groups : ℕ
+most_groups = 128
+
+-- `init`: EMFILE where so many groups are open
+unfoldable pub grouped : List QueueState → Reply × List QueueState
+grouped queues =
+    if nat_lt (length queues) most_groups then (replies.Group (length queues + 1), queues ++ empty_queue ∷ [])
+    else (replies.Refused errno.Emfile, queues)
+
 -- `mark`: EBADF where the group isn't there, ENOENT where the path reaches nothing
 abbrev pub marked_at : Option QueueState → Option ℕ → List Mark → ℕ → Reply × List Mark
 marked_at None object marks group = (replies.Refused errno.Ebadf, marks)
@@ -108,7 +118,7 @@ read_from queues group size = read_at (queue_at queues group) queues group size
 unfoldable pub next : WorldState → Step → Reply × WorldState
 next world (steps.MkFile path) =
     let r = made world.files world.next_object path in (r.0, record world { files = r.1; next_object = r.2 })
-next world steps.Init = (replies.Group (length world.queues + 1), record world { queues = world.queues ++ empty_queue ∷ [] })
+next world steps.Init = let r = grouped world.queues in (r.0, record world { queues = r.1 })
 next world (steps.Mark group path) =
     let r = marked world.queues world.files world.marks group path in (r.0, record world { marks = r.1 })
 next world (steps.Begin access pid tid path) =

@@ -1,7 +1,7 @@
 // The groups: their queues, from group 1 on, and the steps that name one.
 ghost use Rattle.std.specs.Prelude.{◌≡◌, ◌+◌, ◌-◌, ◌<◌, ◌≤◌, ◌^◌, ◌↔◌, length, slice_get, slice_set, [], ◌∷◌, ◌++◌, Some, None, IfOk, IfErr, IfSome, IfNone, OnOk, OnErr, Ok, Err};
-ghost use Rattle.fan_world.specs.World.{queue_at, marked, read_from, read_answer};
-ghost use Rattle.fan_world.specs.Queue.{empty_queue, read_of};
+ghost use Rattle.fan_world.specs.World.{queue_at, grouped, marked, read_from, read_answer};
+ghost use Rattle.fan_world.specs.Queue.{read_of};
 ghost use Rattle.fan_world.specs.Bounds.{AreBounded};
 
 use super::files::{File, find_object};
@@ -29,13 +29,18 @@ pub(crate) fn place_of_group(queues: &[Queue], group: u32) -> Option<usize>
     Some(place)
 }
 
-/// Makes a group, whose number is the count of groups then.
+/// How many groups may be open.
+const MOST_GROUPS: usize = 128;
+
+/// Makes a group, whose number is the count of groups then. EMFILE where 128 are open.
+#[tactic(auto, unfolding(crate::specs::World::grouped))]
 pub(crate) fn make_group(alloc: Global, queues: &mut Vec<Queue>) -> Result<Reply, NoMemory>
-    requires { length queues.old.items < 2 ^ 30 }
-    ensures ok { IfOk result (λ reply. reply ≡ Reply.Group (length queues.old.items + 1)) }
-    ensures made { OnOk result (queues.new.items ≡ queues.old.items ++ empty_queue ∷ []) }
+    ensures ok { IfOk result (λ reply. (reply, queues.new.items) ≡ grouped queues.old.items) }
     ensures err { OnErr result (queues.new.items ≡ queues.old.items) }
 {
+    if queues.len() >= MOST_GROUPS {
+        return Ok(Reply::Refused(Errno::Emfile));
+    }
     queues.push(Queue::new(alloc))?;
     Ok(Reply::Group(queues.len() as u32))
 }
