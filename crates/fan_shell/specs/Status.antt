@@ -1,0 +1,16 @@
+-- The exit status of the program for each outcome of a command.
+use Rattle.std.specs.Prelude.{ℕ}
+use Rattle.fan_shell.specs.declared.status.Status.{Status}
+use Rattle.fan_shell.specs.declared.status.Status.TheVariants as statuses
+
+abbrev pub code_of : Status → ℕ
+code_of statuses.Ok = 0
+code_of statuses.BadLine = 1
+code_of statuses.Usage = 2
+code_of statuses.ReadFault = 3
+code_of statuses.WriteFault = 4
+code_of statuses.TooLong = 5
+code_of statuses.NoMemory = 6
+code_of statuses.NotLegal = 7
+code_of statuses.NoThread = 8
+code_of statuses.BadRecord = 9

@@ -1,0 +1,59 @@
+-- The texts of replies, without their LF.
+use Rattle.std.specs.Prelude.{ℕ, ◌+◌, ◌/◌, ◌%◌, List, [], ◌∷◌, ◌++◌, codes, nat_lt, if◌then◌else◌}
+use Rattle.std.specs.Fmt.{decimal}
+use Rattle.fan_bits.specs.declared.errno.Errno.{Errno}
+use Rattle.fan_bits.specs.declared.errno.Errno.TheVariants as errno
+use Rattle.fan_world.specs.declared.step.Reply.{Reply}
+use Rattle.fan_world.specs.declared.step.Reply.TheVariants as replies
+use Rattle.fan_world.specs.declared.step.StepOutcome.{StepOutcome}
+use Rattle.fan_world.specs.declared.step.StepOutcome.TheVariants as outcomes
+
+-- a refusal is the name of its errno
+unfoldable pub errno_text : Errno → List ℕ
+errno_text errno.Ebadf = codes "EBADF"
+errno_text errno.Einval = codes "EINVAL"
+errno_text errno.Enoent = codes "ENOENT"
+errno_text errno.Enotdir = codes "ENOTDIR"
+errno_text errno.Eisdir = codes "EISDIR"
+errno_text errno.Eexist = codes "EEXIST"
+errno_text errno.Enotempty = codes "ENOTEMPTY"
+errno_text errno.Ebusy = codes "EBUSY"
+errno_text errno.Exdev = codes "EXDEV"
+errno_text errno.Enospc = codes "ENOSPC"
+errno_text errno.Emfile = codes "EMFILE"
+errno_text errno.Eagain = codes "EAGAIN"
+errno_text errno.Esrch = codes "ESRCH"
+errno_text errno.Eacces = codes "EACCES"
+
+-- a hexadecimal digit in lower case
+abbrev pub hex_digit : ℕ → ℕ
+hex_digit value = if nat_lt value 10 then 48 + value else 87 + value
+
+-- two digits for each byte
+abbrev pub hex_text : List ℕ → List ℕ
+hex_text [] = []
+hex_text (byte ∷ bytes) = (hex_digit (byte / 16) ∷ hex_digit (byte % 16) ∷ []) ++ hex_text bytes
+
+-- what a single step of an access did
+unfoldable pub outcome_text : StepOutcome → List ℕ
+outcome_text (outcomes.Queued group) = codes "told " ++ decimal group ++ codes " queued"
+outcome_text (outcomes.Closed group) = codes "closed " ++ decimal group
+outcome_text outcomes.Done = codes "done"
+
+unfoldable pub reply_text : Reply → List ℕ
+reply_text replies.Done = codes "ok"
+reply_text (replies.Inode object) = codes "inode " ++ decimal object
+reply_text (replies.Group group) = codes "group " ++ decimal group
+reply_text (replies.Bytes bytes) = codes "bytes " ++ hex_text bytes
+reply_text (replies.Refused refusal) = errno_text refusal
+reply_text (replies.Out outcome) = outcome_text outcome
+
+-- answers behind another, each after a comma and a space
+abbrev pub more_text : List Reply → List ℕ
+more_text [] = []
+more_text (answer ∷ more) = codes ", " ++ reply_text answer ++ more_text more
+
+-- the answers of a run, with a comma and a space between each two
+abbrev pub answers_text : List Reply → List ℕ
+answers_text [] = []
+answers_text (answer ∷ more) = reply_text answer ++ more_text more

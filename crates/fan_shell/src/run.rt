@@ -1,0 +1,63 @@
+// `run`: the single steps of an access, up to the one that ends it.
+ghost use Rattle.std.specs.Prelude.{◌≡◌, ◌+◌, ◌<◌, ◌≤◌, ◌^◌, ◌++◌, IfOk, OnOk};
+ghost use Rattle.fan_world.specs.Run.{ends_run, ran, most_answers};
+ghost use Rattle.fan_world.specs.World.{next};
+ghost use Rattle.fan_world.specs.declared.step.Step.TheVariants as steps;
+ghost use Rattle.fan_shell.specs.Texts.{reply_text, more_text, answers_text};
+
+use crate::texts::{push_reply, push_text};
+use fan_io::NoMemory;
+use fan_world::{Reply, Step, StepOutcome, World};
+use std::alloc::Global;
+
+// Whether an answer ends a run.
+fn is_end(reply: &Reply) -> bool
+    ensures { result ≡ ends_run reply.now }
+{
+    match reply {
+        Reply::Out(StepOutcome::Queued(_)) => false,
+        Reply::Out(StepOutcome::Closed(_)) => false,
+        _ => true,
+    }
+}
+
+// Does the next single step and puts its answer at the end. Says whether it ends the run.
+fn push_answer(
+    alloc: Global,
+    world: &mut World,
+    access: u32,
+    out: &mut Vec<u8>,
+) -> Result<bool, NoMemory>
+    requires { world.old.steps < 2 ^ 30 }
+    ensures text { IfOk result (λ ends. let r = next world.old.state (steps.Advance access) in
+        (out.new.items, world.new.state, ends) ≡ (out.old.items ++ reply_text r.0, r.1, ends_run r.0)) }
+    ensures steps { world.new.steps ≤ world.old.steps + 1 }
+{
+    let reply = world.step(&Step::Advance { access })?;
+    push_reply(alloc, out, &reply)?;
+    Ok(is_end(&reply))
+}
+
+// Puts the answers of so many further single steps at the end, each behind a comma.
+fn push_more(
+    alloc: Global,
+    world: &mut World,
+    access: u32,
+    left: u32,
+    out: &mut Vec<u8>,
+) -> Result<(), NoMemory>
+    requires { world.old.steps + left ≤ 2 ^ 30 }
+    ensures text { OnOk result (let r = ran left world.old.state access in
+        (out.new.items, world.new.state) ≡ (out.old.items ++ more_text r.0, r.1)) }
+    ensures steps { world.new.steps ≤ world.old.steps + left }
+{
+    if left == 0 {
+        return Ok(());
+    }
+    push_text(out, ", ")?;
+    let ends = push_answer(alloc, world, access, out)?;
+    if ends {
+        return Ok(());
+    }
+    push_more(alloc, world, access, left - 1, out)
+}
