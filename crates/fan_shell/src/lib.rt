@@ -8,3 +8,6 @@ mod paths;
 mod words;
 
 pub use line::{Line, LineRefused, at_most_one_line, read_line};
+
+#[cfg(test)]
+mod line_tests;
