@@ -1,5 +1,5 @@
 -- Each form of a line: what is read is spelled so, and what is spelled so is read.
-use Rattle.std.proofs.Common.{◌≡◌, ℕ, ◌≤◌, Bool, true, false, List, [], ◌∷◌, ◌++◌, Option, Some, None, refl, ap, subst, arith}
+use Rattle.std.proofs.Common.{◌≡◌, ℕ, ◌≤◌, true, List, ◌∷◌, ◌++◌, Some, refl, arith}
 use Rattle.std.specs.Prelude.{codes}
 use Rattle.std.specs.Fmt.{decimal}
 use Rattle.std.specs.Str.{bytes_eq}
@@ -23,8 +23,8 @@ mkfile_takes : (fields : List ℕ) (line : Line) → mkfile_at fields ≡ Some l
 unfolding mkfile_at
 mkfile_takes fields line e =
     bind_some _ _ _ e (λ path p same.
-      let word = path_takes fields path p in
-      rw (← same_Some _ _ same, word.0) (refl, word.1))
+    let word = path_takes fields path p in
+    rw (← same_Some _ _ same, word.0) (refl, word.1))
 
 pub mkfile_again : (path : List ℕ) → IsPath path → mkfile_at path ≡ Some (One (MkFile path))
 unfolding mkfile_at
@@ -44,10 +44,10 @@ mark_takes fields line e =
     bind_some _ _ _ e (λ mask f e.
     bind_some _ _ _ e (λ last m e.
     bind_some _ _ _ e (λ path p same.
-      let number = split_number_takes 1 4294967295 fields group.0 group.1 g in
-      let word = path_takes last path p in
-      rw (← same_Some _ _ same, number.spelled, rest_takes (codes "1") group.1 mask f, rest_takes (codes "20") mask last m, word.0)
-        (refl, ((number.low, number.high), word.1))))))
+    let number = split_number_takes 1 4294967295 fields group.0 group.1 g in
+    let word = path_takes last path p in
+    rw (← same_Some _ _ same, number.spelled, rest_takes (codes "1") group.1 mask f, rest_takes (codes "20") mask last m, word.0)
+    (refl, ((number.low, number.high), word.1))))))
 
 pub mark_again : (group : ℕ) (path : List ℕ) → IsNumber group → IsPath path → mark_at (decimal group ++ 32 ∷ (codes "1" ++ 32 ∷ (codes "20" ++ 32 ∷ path))) ≡ Some (One (Mark group path))
 unfolding mark_at
@@ -62,12 +62,12 @@ begin_takes fields line e =
     bind_some _ _ _ e (λ (tid : ℕ × List ℕ) t e.
     bind_some _ _ _ e (λ last o e.
     bind_some _ _ _ e (λ path r same.
-      let number = split_number_takes 1 4294967295 fields access.0 access.1 a in
-      let process = split_number_takes 1 2147483647 access.1 pid.0 pid.1 p in
-      let thread = split_number_takes 1 2147483647 pid.1 tid.0 tid.1 t in
-      let word = path_takes last path r in
-      rw (← same_Some _ _ same, number.spelled, process.spelled, thread.spelled, rest_takes (codes "open") tid.1 last o, word.0)
-        (refl, ((number.low, number.high), (process.low, process.high), (thread.low, thread.high), word.1)))))))
+    let number = split_number_takes 1 4294967295 fields access.0 access.1 a in
+    let process = split_number_takes 1 2147483647 access.1 pid.0 pid.1 p in
+    let thread = split_number_takes 1 2147483647 pid.1 tid.0 tid.1 t in
+    let word = path_takes last path r in
+    rw (← same_Some _ _ same, number.spelled, process.spelled, thread.spelled, rest_takes (codes "open") tid.1 last o, word.0)
+    (refl, ((number.low, number.high), (process.low, process.high), (thread.low, thread.high), word.1)))))))
 
 pub begin_again : (access pid tid : ℕ) (path : List ℕ) → IsNumber access → IsPid pid → IsPid tid → IsPath path → begin_at (decimal access ++ 32 ∷ (decimal pid ++ 32 ∷ (decimal tid ++ 32 ∷ (codes "open" ++ 32 ∷ path)))) ≡ Some (One (Begin access pid tid path))
 unfolding begin_at
@@ -79,8 +79,8 @@ run_takes : (fields : List ℕ) (line : Line) → run_at fields ≡ Some line �
 unfolding run_at
 run_takes fields line e =
     bind_some _ _ _ e (λ access a same.
-      let number = number_takes 1 4294967295 fields access a in
-      rw (← same_Some _ _ same, number.spelled) (refl, (number.low, number.high)))
+    let number = number_takes 1 4294967295 fields access a in
+    rw (← same_Some _ _ same, number.spelled) (refl, (number.low, number.high)))
 
 pub run_again : (access : ℕ) → IsNumber access → run_at (decimal access) ≡ Some (Run access)
 unfolding run_at
@@ -91,9 +91,9 @@ unfolding read_at
 read_takes fields line e =
     bind_some _ _ _ e (λ (group : ℕ × List ℕ) g e.
     bind_some _ _ _ e (λ size s same.
-      let number = split_number_takes 1 4294967295 fields group.0 group.1 g in
-      let room = number_takes 0 1048576 group.1 size s in
-      rw (← same_Some _ _ same, number.spelled, room.spelled) (refl, ((number.low, number.high), room.high))))
+    let number = split_number_takes 1 4294967295 fields group.0 group.1 g in
+    let room = number_takes 0 1048576 group.1 size s in
+    rw (← same_Some _ _ same, number.spelled, room.spelled) (refl, ((number.low, number.high), room.high))))
 
 pub read_again : (group size : ℕ) → IsNumber group → size ≤ 1048576 → read_at (decimal group ++ 32 ∷ decimal size) ≡ Some (One (Read group size))
 unfolding read_at

@@ -1,17 +1,17 @@
 -- A word is read as a number exactly where it is what `decimal` writes of one in range.
-use Rattle.std.proofs.Common.{◌≡◌, ℕ, suc, ◌+◌, ◌-◌, ◌*◌, ◌^◌, ◌<◌, ◌≤◌, Bool, true, false, not, cond, eqb, ltb, ◌&&◌, List, [], ◌∷◌, ◌++◌, length, get_or, take, Option, Some, None, refl, sym, ap, ◌∙◌, arith, rules, inl, inr}
+use Rattle.std.proofs.Common.{◌≡◌, ℕ, ◌+◌, ◌-◌, ◌*◌, ◌^◌, ◌<◌, ◌≤◌, Bool, true, false, not, cond, eqb, ltb, List, [], ◌∷◌, ◌++◌, length, get_or, take, Some, refl, sym, ap, arith, rules, inl, inr}
 use Rattle.std.specs.List.{list_all}
 use Rattle.std.specs.Char.{is_ascii_digit, digit_value}
 use Rattle.std.specs.Int.{IsInRange}
 use Rattle.std.specs.Str.Parse.{digits_value}
 use Rattle.std.specs.Fmt.{decimal}
-use Rattle.std.proofs.lemmas.Bool.{and_parts, ltb-true, ltb-false, lt-ltb, le-ltb, eqb-true, eqb-false, eq-eqb, ne_eqb, cases_eq, not-true}
+use Rattle.std.proofs.lemmas.Bool.{and_parts, ltb-false, le-ltb, eqb-true, eqb-false, eq-eqb, ne_eqb, cases_eq}
 use Rattle.std.proofs.lemmas.Bool.Decides.{nat_tests}
 use Rattle.std.proofs.lemmas.Int.Digits.{digits_value_more}
 use Rattle.std.proofs.lemmas.Str.Parse.{IsNumeralModel, numerals_by_value, digits_value_short, digit_at, digits_value-take-le}
 use Rattle.std.proofs.lemmas.Option.{some_pair_parts}
 use Rattle.std.proofs.lemmas.Fmt.{decimal-digits_value, digits_decimal, digits_value-decimal, length-decimal-le, decimal_nonempty, first_decimal, decimal_digit}
-use Rattle.fan_shell.specs.Reading.{◌>>=◌, is_decimal, number_at, number_and_rest, split_at_space}
+use Rattle.fan_shell.specs.Reading.{is_decimal, number_at, number_and_rest}
 use Rattle.fan_shell.proofs.OptionLemmas.{bind_some, fail_some, fail_true}
 use Rattle.fan_shell.proofs.WordLemmas.{is_space, is_spaceless, split_takes, split_again}
 
@@ -79,10 +79,11 @@ first_of_decimal n small zero =
 
 decimal_is : (n : ℕ) → n < 2 ^ 32 → IsDecimal (decimal n)
 decimal_is n small = record {
-    some = decimal_nonempty n (omega arith);
-    short = length-decimal-le 10 n (omega arith) (omega arith) (omega arith);
-    digits = digits_decimal own n (omega arith);
-    first = first_of_decimal n small }
+  some = decimal_nonempty n (omega arith);
+  short = length-decimal-le 10 n (omega arith) (omega arith) (omega arith);
+  digits = digits_decimal own n (omega arith);
+  first = first_of_decimal n small;
+}
 
 -- the word that is read as a number is its decimal, and the number is in range
 pub record IsNumeral (least most : ℕ) (word : List ℕ) (n : ℕ) : Type 0 where
@@ -102,7 +103,8 @@ number_takes least most word n e =
     record {
       spelled = rw (← value) (sym (decimal-digits_value own word parts.digits parts.some parts.first (omega arith)));
       low = omega (arith, ltb-false _ _ low.0);
-      high = omega (arith, ltb-false _ _ high.0) }
+      high = omega (arith, ltb-false _ _ high.0);
+    }
 
 pub number_again : (least most n : ℕ) → least ≤ n → n ≤ most → most < 2 ^ 32 → number_at least most (decimal n) ≡ Some n
 unfolding number_at
@@ -135,12 +137,13 @@ unfolding number_and_rest
 split_number_takes least most bytes n rest e =
     bind_some _ _ _ e (λ (parts : List ℕ × List ℕ) cut more.
     bind_some _ _ _ more (λ number read same.
-      let pair = some_pair_parts number n parts.1 rest same in
-      let numeral = number_takes least most parts.0 number read in
-      rw (← pair.0, ← pair.1) (record {
-        spelled = rw (← numeral.spelled) (split_takes bytes parts.0 parts.1 cut);
-        low = numeral.low;
-        high = numeral.high })))
+    let pair = some_pair_parts number n parts.1 rest same in
+    let numeral = number_takes least most parts.0 number read in
+    rw (← pair.0, ← pair.1) (record {
+      spelled = rw (← numeral.spelled) (split_takes bytes parts.0 parts.1 cut);
+      low = numeral.low;
+      high = numeral.high;
+    })))
 
 pub split_number_again : (least most n : ℕ) (rest : List ℕ) → least ≤ n → n ≤ most → most < 2 ^ 32 → number_and_rest least most (decimal n ++ 32 ∷ rest) ≡ Some (n, rest)
 unfolding number_and_rest

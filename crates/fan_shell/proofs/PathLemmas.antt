@@ -1,5 +1,5 @@
 -- A word is read as a path exactly where it is a slash and a name.
-use Rattle.std.proofs.Common.{◌≡◌, ◌≢◌, ℕ, ◌+◌, ◌<◌, ◌≤◌, Bool, true, false, not, cond, eqb, ltb, leb, ◌&&◌, ◌==◌, List, [], ◌∷◌, length, Option, Some, None, Decides, refl, sym, ap, arith, rules}
+use Rattle.std.proofs.Common.{◌≡◌, ◌≢◌, ℕ, Bool, true, false, cond, eqb, ltb, List, [], ◌∷◌, length, Some, Decides, refl, ap, arith}
 use Rattle.std.specs.Prelude.{codes, All}
 use Rattle.std.specs.List.{list_all}
 use Rattle.std.specs.Str.{bytes_eq}
@@ -30,7 +30,8 @@ name_takes name e =
       most = ltb-false _ _ most.0;
       bytes = (name_bytes_decides name).0 dots.1;
       not_dot = not_from_Decides _ (bytes_eq-Decides name (codes ".")) dot.0;
-      not_dots = not_from_Decides _ (bytes_eq-Decides name (codes "..")) dots.0 }
+      not_dots = not_from_Decides _ (bytes_eq-Decides name (codes "..")) dots.0;
+    }
 
 differs : (xs ys : List ℕ) → xs ≢ ys → bytes_eq xs ys ≡ false
 differs xs ys ne = false_from_ne_true _ (λ e. ne ((bytes_eq-Decides xs ys).0 e))

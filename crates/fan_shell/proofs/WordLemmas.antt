@@ -1,14 +1,14 @@
 -- What is cut off at the first space, and that it is cut off again.
-use Rattle.std.proofs.Common.{◌≡◌, ℕ, ◌+◌, ◌<◌, Bool, true, false, not, cond, eqb, ltb, ◌==◌, List, [], ◌∷◌, ◌++◌, length, get_or, take, drop, Option, Some, None, refl, sym, ap, subst, ◌∙◌, arith, length-append}
+use Rattle.std.proofs.Common.{◌≡◌, ℕ, ◌+◌, Bool, true, not, ltb, ◌==◌, List, [], ◌∷◌, ◌++◌, length, get_or, take, drop, Some, refl, subst, arith, length-append}
 use Rattle.std.specs.List.{list_all, position, position_or_len}
 use Rattle.std.specs.Str.{bytes_eq}
 use Rattle.std.proofs.lemmas.Bool.{and_parts, ltb-true, lt-ltb, eqb-true}
 use Rattle.std.proofs.lemmas.Slice.Eq.{bytes_eq-Decides}
 use Rattle.std.proofs.lemmas.List.{take_at, drop_at, drop-drop}
 use Rattle.std.proofs.lemmas.List.Sums.{split_at_first, passes_at_first}
-use Rattle.std.proofs.lemmas.Option.{cond_some, some_pair_parts, same_Some}
-use Rattle.fan_shell.specs.Reading.{◌>>=◌, split_at_space, rest_after}
-use Rattle.fan_shell.proofs.OptionLemmas.{bind_some, test_some}
+use Rattle.std.proofs.lemmas.Option.{cond_some, some_pair_parts}
+use Rattle.fan_shell.specs.Reading.{split_at_space, rest_after}
+use Rattle.fan_shell.proofs.OptionLemmas.{bind_some}
 
 abbrev pub is_space : ℕ → Bool
 is_space byte = byte == 32
@@ -41,24 +41,24 @@ found_at bytes at e =
     let space : get_or bytes (position_or_len is_space bytes) 0 ≡ 32 = eqb-true _ _ (passes_at_first is_space bytes 0 within) in
     let split = split_at_first is_space bytes 0 within in
     subst (λ (k : ℕ). bytes ≡ take k bytes ++ 32 ∷ drop (k + 1) bytes) found.1
-      (subst (λ (c : ℕ). bytes ≡ take (position_or_len is_space bytes) bytes ++ c ∷ drop (position_or_len is_space bytes + 1) bytes) space split)
+    (subst (λ (c : ℕ). bytes ≡ take (position_or_len is_space bytes) bytes ++ c ∷ drop (position_or_len is_space bytes + 1) bytes) space split)
 
 -- what is cut apart at a space, with the space between, is the whole
 pub split_takes : (bytes word rest : List ℕ) → split_at_space bytes ≡ Some (word, rest) → bytes ≡ word ++ 32 ∷ rest
 unfolding split_at_space
 split_takes bytes word rest e =
     bind_some _ _ _ e (λ at found cut.
-      let parts = some_pair_parts (take at bytes) word (drop (at + 1) bytes) rest cut in
-      rw (← parts.0, ← parts.1) (found_at bytes at found))
+    let parts = some_pair_parts (take at bytes) word (drop (at + 1) bytes) rest cut in
+    rw (← parts.0, ← parts.1) (found_at bytes at found))
 
 -- behind this word and a space stands what is left
 pub rest_takes : (word bytes rest : List ℕ) → rest_after word bytes ≡ Some rest → bytes ≡ word ++ 32 ∷ rest
 unfolding rest_after
 rest_takes word bytes rest e =
     bind_some _ _ _ e (λ (parts : List ℕ × List ℕ) cut same.
-      let found = cond_some (bytes_eq parts.0 word) parts.1 rest same in
-      let first : parts.0 ≡ word = (bytes_eq-Decides parts.0 word).0 found.0 in
-      rw (← first, ← found.1) (split_takes bytes parts.0 parts.1 cut))
+    let found = cond_some (bytes_eq parts.0 word) parts.1 rest same in
+    let first : parts.0 ≡ word = (bytes_eq-Decides parts.0 word).0 found.0 in
+    rw (← first, ← found.1) (split_takes bytes parts.0 parts.1 cut))
 
 -- this word and its space are taken off
 pub rest_again : (word rest : List ℕ) → is_spaceless word ≡ true → rest_after word (word ++ 32 ∷ rest) ≡ Some rest

@@ -1,5 +1,5 @@
 -- How a line of a script is spelled: its words, with one space between each two.
-use Rattle.std.specs.Prelude.{◌≡◌, ◌≢◌, ℕ, ◌<◌, ◌≤◌, List, [], ◌∷◌, length, codes, All}
+use Rattle.std.specs.Prelude.{◌≡◌, ◌≢◌, ℕ, ◌≤◌, List, [], ◌∷◌, length, codes, All}
 use Rattle.std.specs.List.{join_with_byte}
 use Rattle.std.specs.Fmt.{decimal}
 use Rattle.fan_world.specs.declared.step.Step.TheVariants.{MkFile, Init, Mark, Begin, Advance, Read}

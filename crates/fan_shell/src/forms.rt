@@ -52,7 +52,12 @@ fn begin(alloc: Global, fields: &[u8]) -> Result<Line, LineRefused>
     let (tid, fields) = split_number(fields, 1, MOST_PID)?;
     let fields = skip_word(b"open", fields)?;
     let path = path(alloc, fields)?;
-    Ok(Line::One(Step::Begin { access, pid, tid, path }))
+    Ok(Line::One(Step::Begin {
+        access,
+        pid,
+        tid,
+        path,
+    }))
 }
 
 #[tactic(auto, unfolding(crate::specs::Reading::run_at))]

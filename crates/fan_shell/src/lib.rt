@@ -14,3 +14,6 @@ mod words;
 pub use script::Used;
 pub use status::Status;
 pub use line::{Line, LineRefused, at_most_one_line, read_line};
+
+#[cfg(test)]
+mod line_tests;

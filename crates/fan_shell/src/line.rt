@@ -59,5 +59,4 @@ pub fn read_line(alloc: Global, line: &[u8]) -> Result<Line, LineRefused>
 /// A list of bytes is at most one line.
 pub fn at_most_one_line()
     ensures { (bytes : List ℕ) (a b : Line) → LineOf bytes a → LineOf bytes b → a ≡ b }
-{
-}
+{}

@@ -1,4 +1,4 @@
-use Rattle.std.proofs.Common.{◌≡◌, ◌+◌, ◌-◌, ◌<◌, length, get_or, arith, rules}
+use Rattle.std.proofs.Common.{◌+◌, arith}
 use Rattle.fan_shell.proofs.NumberLemmas.{value_more, value_within}
 use Rattle.fan_shell.proofs.numbers.digits_value.Goals as goal
 

@@ -1,4 +1,4 @@
-use Rattle.std.proofs.Common.{◌≡◌, true, arith, rules}
+use Rattle.std.proofs.Common.{◌≡◌, true, arith}
 use Rattle.fan_shell.specs.Reading.{is_decimal}
 use Rattle.fan_shell.proofs.NumberLemmas.{decimal_parts}
 use Rattle.fan_shell.proofs.numbers.number.Goals as goal
