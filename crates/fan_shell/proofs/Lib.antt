@@ -4,3 +4,4 @@ pub mod NumberLemmas
 pub mod PathLemmas
 pub mod FormLemmas
 pub mod LineLemmas
+pub mod RunLemmas

@@ -10,6 +10,9 @@ use fan_io::NoMemory;
 use fan_world::{Reply, Step, StepOutcome, World};
 use std::alloc::Global;
 
+// How many single steps a run has at most.
+const MOST_ANSWERS: u32 = 385;
+
 // Whether an answer ends a run.
 fn is_end(reply: &Reply) -> bool
     ensures { result ≡ ends_run reply.now }
@@ -29,8 +32,10 @@ fn push_answer(
     out: &mut Vec<u8>,
 ) -> Result<bool, NoMemory>
     requires { world.old.steps < 2 ^ 30 }
-    ensures text { IfOk result (λ ends. let r = next world.old.state (steps.Advance access) in
-        (out.new.items, world.new.state, ends) ≡ (out.old.items ++ reply_text r.0, r.1, ends_run r.0)) }
+    ensures text { OnOk result (out.new.items
+        ≡ out.old.items ++ reply_text (next world.old.state (steps.Advance access)).0) }
+    ensures state { OnOk result (world.new.state ≡ (next world.old.state (steps.Advance access)).1) }
+    ensures ends { IfOk result (λ ends. ends ≡ ends_run (next world.old.state (steps.Advance access)).0) }
     ensures steps { world.new.steps ≤ world.old.steps + 1 }
 {
     let reply = world.step(&Step::Advance { access })?;
@@ -47,8 +52,8 @@ fn push_more(
     out: &mut Vec<u8>,
 ) -> Result<(), NoMemory>
     requires { world.old.steps + left ≤ 2 ^ 30 }
-    ensures text { OnOk result (let r = ran left world.old.state access in
-        (out.new.items, world.new.state) ≡ (out.old.items ++ more_text r.0, r.1)) }
+    ensures text { OnOk result (out.new.items ≡ out.old.items ++ more_text (ran left world.old.state access).0) }
+    ensures state { OnOk result (world.new.state ≡ (ran left world.old.state access).1) }
     ensures steps { world.new.steps ≤ world.old.steps + left }
 {
     if left == 0 {
@@ -60,4 +65,24 @@ fn push_more(
         return Ok(());
     }
     push_more(alloc, world, access, left - 1, out)
+}
+
+/// Runs an access to its end, and puts the answers of its single steps at the end.
+pub(crate) fn push_run(
+    alloc: Global,
+    world: &mut World,
+    access: u32,
+    out: &mut Vec<u8>,
+) -> Result<(), NoMemory>
+    requires { world.old.steps + 385 ≤ 2 ^ 30 }
+    ensures text { OnOk result (out.new.items
+        ≡ out.old.items ++ answers_text (ran most_answers world.old.state access).0) }
+    ensures state { OnOk result (world.new.state ≡ (ran most_answers world.old.state access).1) }
+    ensures steps { world.new.steps ≤ world.old.steps + 385 }
+{
+    let ends = push_answer(alloc, world, access, out)?;
+    if ends {
+        return Ok(());
+    }
+    push_more(alloc, world, access, MOST_ANSWERS - 1, out)
 }
