@@ -5,3 +5,5 @@ pub mod PathLemmas
 pub mod FormLemmas
 pub mod LineLemmas
 pub mod RunLemmas
+pub mod PlayLemmas
+pub mod SplitLemmas

@@ -44,6 +44,7 @@ fn push_answer(
 }
 
 // Puts the answers of so many further single steps at the end, each behind a comma.
+#[tactic(auto, using(crate::proofs::RunLemmas::more_none, crate::proofs::RunLemmas::state_none, crate::proofs::RunLemmas::more_ends, crate::proofs::RunLemmas::state_ends, crate::proofs::RunLemmas::more_goes_on, crate::proofs::RunLemmas::state_goes_on))]
 fn push_more(
     alloc: Global,
     world: &mut World,
@@ -68,6 +69,7 @@ fn push_more(
 }
 
 /// Runs an access to its end, and puts the answers of its single steps at the end.
+#[tactic(auto, using(crate::proofs::RunLemmas::all_end, crate::proofs::RunLemmas::state_ends, crate::proofs::RunLemmas::all_go_on), unfolding(fan_world::specs::Run::most_answers))]
 pub(crate) fn push_run(
     alloc: Global,
     world: &mut World,
@@ -84,5 +86,6 @@ pub(crate) fn push_run(
     if ends {
         return Ok(());
     }
-    push_more(alloc, world, access, MOST_ANSWERS - 1, out)
+    push_more(alloc, world, access, MOST_ANSWERS - 1, out)?;
+    Ok(())
 }

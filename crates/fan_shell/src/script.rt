@@ -1,6 +1,19 @@
 // A script, answered line by line.
-ghost use Rattle.std.specs.Prelude.{◌≡◌};
-ghost use Rattle.fan_shell.specs.Script.{nothing_used};
+ghost use Rattle.std.specs.Prelude.{◌≡◌, ◌≢◌, ◌+◌, ◌*◌, ◌<◌, ◌≤◌, ◌^◌, ◌++◌, ◌∷◌, ◌==◌, [], true, length, position, Some, None, IfOk, IfSome, OnOk, OnErr, if◌then◌else◌};
+ghost use Rattle.std.specs.Io.KnownBytes.{Appends};
+ghost use Rattle.fan_io.specs.Bytes.{AppendsFront};
+ghost use Rattle.fan_io.specs.Faults.{Rose};
+ghost use Rattle.fan_world.specs.World.{opening_world};
+ghost use Rattle.fan_shell.specs.Playing.{new_line, turn, play};
+ghost use Rattle.fan_shell.specs.Script.{nothing_used, is_new, using_line, answered, bad_line_text, lines_of};
+
+use crate::line::{Line, LineRefused, read_line};
+use crate::run::push_run;
+use crate::status::Status;
+use crate::texts::{push_number, push_reply, push_text};
+use fan_io::{NoMemory, Sink, put_all};
+use fan_world::{Step, World};
+use std::alloc::Global;
 
 /// Which steps were asked for so far, of those that a script may ask for once, refused ones too.
 #[derive(Clone, Copy, Debug, PartialEq, Eq)]
@@ -9,4 +22,149 @@ pub struct Used {
     pub group: bool,
     pub mark: bool,
     pub access: bool,
+}
+
+impl Used {
+    const NOTHING: Used = Used {
+        file: false,
+        group: false,
+        mark: false,
+        access: false,
+    };
+
+    // Whether a line may come now.
+    fn allows(self, line: &Line) -> bool
+        ensures { result ≡ is_new self line.now }
+    {
+        match line {
+            Line::One(Step::MkFile { .. }) => !self.file,
+            Line::One(Step::Init) => !self.group,
+            Line::One(Step::Mark { .. }) => !self.mark,
+            Line::One(Step::Begin { .. }) => !self.access,
+            _ => true,
+        }
+    }
+
+    // What was asked for after a line.
+    fn after(self, line: &Line) -> Used
+        ensures { result ≡ using_line self line.now }
+    {
+        match line {
+            Line::One(Step::MkFile { .. }) => Used { file: true, ..self },
+            Line::One(Step::Init) => Used { group: true, ..self },
+            Line::One(Step::Mark { .. }) => Used { mark: true, ..self },
+            Line::One(Step::Begin { .. }) => Used {
+                access: true,
+                ..self
+            },
+            _ => self,
+        }
+    }
+}
+
+// The line that the bytes are, where it may come now.
+#[tactic(auto, using(crate::proofs::PlayLemmas::new_from_found, crate::proofs::PlayLemmas::not_new_from_found, crate::proofs::PlayLemmas::not_new_from_bad))]
+fn read_new(alloc: Global, used: Used, bytes: &[u8]) -> Result<Option<Line>, NoMemory>
+    ensures line { IfOk result (λ line. line ≡ new_line used bytes.now) }
+    ensures long { IfOk result (λ line. IfSome line (λ _. 5 ≤ length bytes.now)) }
+{
+    match read_line(alloc, bytes) {
+        Ok(line) => {
+            if used.allows(&line) {
+                Ok(Some(line))
+            } else {
+                Ok(None)
+            }
+        }
+        Err(LineRefused::BadLine) => Ok(None),
+        Err(LineRefused::NoMemory) => Err(NoMemory),
+    }
+}
+
+// Does what a line asks for, and puts the text that answers it at the end.
+#[tactic(auto, using(std::proofs::Common::append_assoc), unfolding(crate::specs::Script::answered))]
+fn push_answered(
+    alloc: Global,
+    world: &mut World,
+    line: &Line,
+    out: &mut Vec<u8>,
+) -> Result<(), NoMemory>
+    requires { world.old.steps + 385 ≤ 2 ^ 30 }
+    ensures text { OnOk result (out.new.items ≡ out.old.items ++ (answered world.old.state line.now).0) }
+    ensures state { OnOk result (world.new.state ≡ (answered world.old.state line.now).1) }
+    ensures steps { world.new.steps ≤ world.old.steps + 385 }
+{
+    match line {
+        Line::One(step) => {
+            let reply = world.step(step)?;
+            push_reply(alloc, out, &reply)?;
+        }
+        Line::Run(access) => push_run(alloc, world, *access, out)?,
+    }
+    push_text(out, "\n")
+}
+
+// Puts the text that names a bad line at the end.
+#[tactic(auto, using(std::proofs::Common::append_assoc), unfolding(crate::specs::Script::bad_line_text))]
+fn push_bad_line(alloc: Global, out: &mut Vec<u8>, number: u32) -> Result<(), NoMemory>
+    ensures { OnOk result (out.new.items ≡ out.old.items ++ bad_line_text number) }
+{
+    push_text(out, "bad line ")?;
+    push_number(alloc, out, number.into())?;
+    push_text(out, "\n")
+}
+
+// Answers one line: puts its text at the end, and says whether the line was good.
+#[tactic(auto, unfolding(crate::specs::Playing::turn))]
+fn answer_line(
+    alloc: Global,
+    world: &mut World,
+    used: &mut Used,
+    number: u32,
+    bytes: &[u8],
+    out: &mut Vec<u8>,
+) -> Result<bool, NoMemory>
+    requires { world.old.steps + 385 ≤ 2 ^ 30 }
+    ensures text { OnOk result (out.new.items
+        ≡ out.old.items ++ (turn world.old.state used.old number bytes.now).0) }
+    ensures start { IfOk result (λ good. (turn world.old.state used.old number bytes.now).1
+        ≡ (if good then Some (world.new.state, used.new) else None)) }
+    ensures steps { world.new.steps ≤ world.old.steps + 385 }
+    ensures long { IfOk result (λ good. good ≡ true → 5 ≤ length bytes.now) }
+{
+    match read_new(alloc, *used, bytes)? {
+        None => {
+            push_bad_line(alloc, out, number)?;
+            Ok(false)
+        }
+        Some(line) => {
+            push_answered(alloc, world, &line, out)?;
+            *used = used.after(&line);
+            Ok(true)
+        }
+    }
+}
+
+const LF: u8 = b'\n';
+
+// Where the first LF is.
+fn first_lf(script: &[u8]) -> Option<usize>
+    ensures found { result ≡ position (λ byte. byte == 10) script.now }
+    ensures within { IfSome result (λ at. at < length script.now) }
+{
+    script.iter().position(|byte| *byte == LF)
+}
+
+// The first line of a script that is not empty, and what follows it.
+#[tactic(auto, using(crate::proofs::SplitLemmas::lines_at, crate::proofs::SplitLemmas::lines_none, std::proofs::lemmas::List::take_rest))]
+fn split_line(script: &[u8]) -> (&[u8], &[u8])
+    requires { 0 < length script.now }
+    ensures lines { lines_of script.now ≡ result.0.now ∷ lines_of result.1.now }
+    ensures length { length result.0.now + length result.1.now ≤ length script.now }
+    ensures shorter { length result.1.now < length script.now }
+{
+    match first_lf(script) {
+        Some(at) => (&script[..at], &script[at + 1..]),
+        None => (script, &[]),
+    }
 }
