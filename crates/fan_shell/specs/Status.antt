@@ -14,3 +14,29 @@ code_of statuses.NoMemory = 6
 code_of statuses.NotLegal = 7
 code_of statuses.NoThread = 8
 code_of statuses.BadRecord = 9
+
+-- a script was answered to its end or to its first bad line
+abbrev pub IsTold : Status → Type 0
+IsTold statuses.Ok = Unit {0}
+IsTold statuses.BadLine = Unit {0}
+IsTold statuses.Usage = ⊥
+IsTold statuses.ReadFault = ⊥
+IsTold statuses.WriteFault = ⊥
+IsTold statuses.TooLong = ⊥
+IsTold statuses.NoMemory = ⊥
+IsTold statuses.NotLegal = ⊥
+IsTold statuses.NoThread = ⊥
+IsTold statuses.BadRecord = ⊥
+
+-- a text was written whole, or cut off by a fault of the sink or by want of memory
+abbrev pub IsToldOrCut : Status → Type 0
+IsToldOrCut statuses.Ok = Unit {0}
+IsToldOrCut statuses.BadLine = Unit {0}
+IsToldOrCut statuses.Usage = ⊥
+IsToldOrCut statuses.ReadFault = ⊥
+IsToldOrCut statuses.WriteFault = Unit {0}
+IsToldOrCut statuses.TooLong = ⊥
+IsToldOrCut statuses.NoMemory = Unit {0}
+IsToldOrCut statuses.NotLegal = ⊥
+IsToldOrCut statuses.NoThread = ⊥
+IsToldOrCut statuses.BadRecord = ⊥

@@ -5,13 +5,14 @@ ghost use Rattle.fan_io.specs.Bytes.{AppendsFront};
 ghost use Rattle.fan_io.specs.Faults.{Rose};
 ghost use Rattle.fan_world.specs.World.{opening_world};
 ghost use Rattle.fan_shell.specs.Playing.{new_line, turn, play};
+ghost use Rattle.fan_shell.specs.Status.{IsTold, IsToldOrCut};
 ghost use Rattle.fan_shell.specs.Script.{nothing_used, is_new, using_line, answered, bad_line_text, lines_of};
 
 use crate::line::{Line, LineRefused, read_line};
 use crate::run::push_run;
 use crate::status::Status;
 use crate::texts::{push_number, push_reply, push_text};
-use fan_io::{NoMemory, Sink, put_all};
+use fan_io::{Failed, NoMemory, Sink, put_all};
 use fan_world::{Step, World};
 use std::alloc::Global;
 
@@ -167,4 +168,39 @@ fn split_line(script: &[u8]) -> (&[u8], &[u8])
         Some(at) => (&script[..at], &script[at + 1..]),
         None => (script, &[]),
     }
+}
+
+/// Writes the transcript of a script, line by line, up to its end, its first bad line or a failure.
+pub(crate) fn write_transcript<K: Sink>(alloc: Global, script: &[u8], sink: &mut K) -> Status
+    requires { length script.now ≤ 4194304 }
+    ensures told { IsTold result → Appends (K.held sink.old) (K.held sink.new) (play script.now).0 }
+    ensures status { IsTold result → (play script.now).1 ≡ result }
+    ensures front { AppendsFront (K.held sink.old) (K.held sink.new) (play script.now).0 }
+    ensures fault { result ≡ Status.WriteFault → Rose (K.faults sink.old) (K.faults sink.new) }
+    ensures others { IsToldOrCut result }
+    ensures kept { K.faults sink.old ≤ K.faults sink.new }
+{
+    let mut world = World::new(alloc);
+    let mut used = Used::NOTHING;
+    let mut number = 1;
+    let mut rest = script;
+    let mut text = Vec::new(alloc);
+    while !rest.is_empty() {
+        let (line, more) = split_line(rest);
+        text.clear();
+        let good = match answer_line(alloc, &mut world, &mut used, number, line, &mut text) {
+            Ok(good) => good,
+            Err(NoMemory) => return Status::NoMemory,
+        };
+        match put_all(sink, &text) {
+            Ok(()) => {}
+            Err(Failed) => return Status::WriteFault,
+        }
+        if !good {
+            return Status::BadLine;
+        }
+        rest = more;
+        number += 1;
+    }
+    Status::Ok
 }
