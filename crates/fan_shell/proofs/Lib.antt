@@ -7,3 +7,5 @@ pub mod LineLemmas
 pub mod RunLemmas
 pub mod PlayLemmas
 pub mod SplitLemmas
+pub mod TranscriptLemmas
+pub mod CommandLemmas

@@ -2,17 +2,21 @@
 #![tactic(auto)]
 
 mod forms;
+mod laws;
 mod line;
 mod numbers;
 mod paths;
+mod plain;
 mod run;
 mod script;
 mod status;
 mod texts;
 mod words;
 
+pub use plain::run_plain;
 pub use script::Used;
 pub use status::Status;
+pub use laws::exactly_one_transcript;
 pub use line::{Line, LineRefused, at_most_one_line, read_line};
 
 #[cfg(test)]
