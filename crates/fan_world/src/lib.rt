@@ -18,3 +18,6 @@ pub use marks::Mark;
 pub use queue::{Event, Queue};
 pub use step::{Reply, Step, StepOutcome};
 pub use world::World;
+
+#[cfg(test)]
+mod tests;
