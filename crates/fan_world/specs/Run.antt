@@ -36,12 +36,16 @@ ran (suc count) world access =
 unfoldable pub most_answers : ℕ
 most_answers = 385
 
--- the answers of a whole run: groups that were told or were closed, and then `done` or ESRCH
+-- the answers of an open access up to its last: groups that were told or are closed, and then `done`
+pub data RunsToDone : List Reply → Type 0 where
+  finished : RunsToDone (replies.Out outcomes.Done ∷ [])
+  queued : {group : ℕ} {more : List Reply} → RunsToDone more → RunsToDone (replies.Out (outcomes.Queued group) ∷ more)
+  closed : {group : ℕ} {more : List Reply} → RunsToDone more → RunsToDone (replies.Out (outcomes.Closed group) ∷ more)
+
+-- the answers of a whole run: those of an open access up to its last, or ESRCH alone where none is open
 pub data IsWholeRun : List Reply → Type 0 where
-  finished : IsWholeRun (replies.Out outcomes.Done ∷ [])
+  opened : {answers : List Reply} → RunsToDone answers → IsWholeRun answers
   not_open : IsWholeRun (replies.Refused errno.Esrch ∷ [])
-  queued : {group : ℕ} {more : List Reply} → IsWholeRun more → IsWholeRun (replies.Out (outcomes.Queued group) ∷ more)
-  closed : {group : ℕ} {more : List Reply} → IsWholeRun more → IsWholeRun (replies.Out (outcomes.Closed group) ∷ more)
 
 -- the state after a list of steps
 abbrev pub after_steps : WorldState → List Step → WorldState
