@@ -60,7 +60,7 @@ fn an_open_is_told_and_read_once(rt: HostRuntime) -> Result<(), Fail> {
         assert!(rt; world.steps() < 100);
         let reply = world.step(step)?;
         let text = format!(in alloc; "{reply:?}")?;
-        assert_eq!(rt; text.as_str(), wanted, "after {} steps", world.steps());
+        assert_eq!(rt; text.as_str(), wanted, "at step {}", world.steps());
     }
     Ok(())
 }
