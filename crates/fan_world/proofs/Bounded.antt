@@ -1,6 +1,6 @@
 -- Descriptors and events together grow by one a step at most.
-use Rattle.std.proofs.Common.{◌≡◌, ℕ, zero, suc, ◌+◌, ◌-◌, ◌<◌, ◌≤◌, List, [], ◌∷◌, ◌++◌, Bool, true, false, cond, ltb, Option, Some, None, Result, Ok, Err, length, drop, get_or, refl, sym, ap, ◌∙◌, arith, set, subst, length-drop, length-append, length-set}
-use Rattle.std.specs.Prelude.{slice_get, slice_set, remove, All}
+use Rattle.std.proofs.Common.{◌≡◌, ℕ, zero, suc, ◌+◌, ◌-◌, ◌<◌, ◌≤◌, List, [], ◌∷◌, ◌++◌, Bool, true, false, cond, ltb, Option, Some, None, Result, Ok, Err, length, get_or, refl, ap, arith, set, length-drop, length-append, length-set}
+use Rattle.std.specs.Prelude.{slice_get}
 use Rattle.std.proofs.lemmas.List.Elements.{All-set, All-push}
 use Rattle.std.proofs.lemmas.Option.{get_or_from_slice_get}
 use Rattle.fan_bits.specs.declared.errno.Errno.{Errno}
@@ -8,7 +8,7 @@ use Rattle.fan_bits.specs.declared.errno.Errno.TheVariants as errno
 use Rattle.fan_world.specs.declared.queue.Event.{Event}
 use Rattle.fan_world.specs.declared.step.Reply.{Reply}
 use Rattle.fan_world.specs.declared.step.Reply.TheVariants as replies
-use Rattle.fan_world.specs.Accesses.{AccessState, next_told, told_one, event_of, place_of}
+use Rattle.fan_world.specs.Accesses.{AccessState, next_told, event_of, place_of}
 use Rattle.fan_world.specs.Bounds.{IsBounded, AreBounded}
 use Rattle.fan_world.specs.Queue.{QueueState, empty_queue, records, fitting, read_by, read_of, queued, after_reading}
 use Rattle.fan_world.specs.World.{grouped, most_groups, queue_at, told, told_to, stepped, stepped_at, advanced, advanced_at, read_answer, read_at, read_from}
@@ -43,8 +43,9 @@ pub bounded_group : (steps : ℕ) (queues : List QueueState) → AreBounded step
 unfolding grouped
 bounded_group steps queues bounded =
     elim (ltb (length queues) most_groups) as (λ (few : Bool). AreBounded (steps + 1) (cond {A = Reply × List QueueState} few (replies.Group (length queues + 1), queues ++ empty_queue ∷ []) (replies.Refused errno.Emfile, queues)).1) [
-        true ↦ bounded_new steps queues bounded
-      | false ↦ bounded_later steps queues bounded ]
+      | true ↦ bounded_new steps queues bounded
+      | false ↦ bounded_later steps queues bounded
+    ]
 
 -- what is at a place keeps its bound
 bounded_at : (steps place : ℕ) (queues : List QueueState) (queue : QueueState) → AreBounded steps queues → slice_get queues place ≡ Some queue → IsBounded steps queue

@@ -1,10 +1,10 @@
 -- What a read of a queue gives, by how many records fit.
-use Rattle.std.proofs.Common.{◌≡◌, ℕ, zero, suc, ◌+◌, ◌-◌, ◌*◌, ◌/◌, ◌%◌, ◌<◌, ◌≤◌, min, Bool, true, false, cond, ltb, List, [], ◌∷◌, ◌++◌, Ok, Err, length, take, drop, refl, sym, ap, ◌∙◌, arith, rules, append_assoc, length-take}
+use Rattle.std.proofs.Common.{◌≡◌, ℕ, zero, suc, ◌+◌, ◌-◌, ◌*◌, ◌/◌, ◌%◌, ◌<◌, ◌≤◌, min, true, false, ltb, List, [], ◌∷◌, ◌++◌, Ok, Err, length, take, drop, refl, sym, ap, ◌∙◌, arith, append_assoc, length-take}
 use Rattle.std.proofs.lemmas.List.{nil_from_length, take_min}
 use Rattle.std.proofs.lemmas.Bool.Decides.{nat_tests}
 use Rattle.fan_bits.specs.declared.errno.Errno.TheVariants as errno
 use Rattle.fan_world.specs.declared.queue.Event.{Event}
-use Rattle.fan_world.specs.Queue.{QueueState, fitting, records, record_of, read_by, read_of, after_reading}
+use Rattle.fan_world.specs.Queue.{QueueState, fitting, records, read_by, read_of, after_reading}
 
 fits_not : (size : ℕ) → size < 24 → ltb size 24 ≡ true
 fits_not size small = grind (arith, nat_tests)

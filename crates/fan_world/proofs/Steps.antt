@@ -1,9 +1,7 @@
 -- What one step of the machine does at a place, over plain values.
-use Rattle.std.proofs.Common.{◌≡◌, ℕ, zero, suc, ◌+◌, ◌<◌, ◌≤◌, List, [], ◌∷◌, Option, Some, None, Result, Ok, Err, length, get_or, refl, sym, ap, ◌∙◌, arith, set}
-use Rattle.std.specs.Prelude.{slice_get, slice_set, remove, All}
+use Rattle.std.proofs.Common.{◌≡◌, ℕ, zero, suc, ◌+◌, List, [], ◌∷◌, Some, None, Err, refl, sym, ap, set}
+use Rattle.std.specs.Prelude.{slice_get, slice_set, remove}
 use Rattle.fan_bits.specs.declared.errno.Errno.{Errno}
-use Rattle.fan_world.specs.declared.queue.Event.{Event}
-use Rattle.fan_world.specs.declared.step.Reply.{Reply}
 use Rattle.fan_world.specs.declared.step.Reply.TheVariants as replies
 use Rattle.fan_world.specs.declared.step.StepOutcome.{StepOutcome}
 use Rattle.fan_world.specs.declared.step.StepOutcome.TheVariants as outcomes

@@ -1,5 +1,5 @@
 -- What bounds the numbers of the machine: each step adds one at most.
-use Rattle.std.specs.Prelude.{ℕ, ◌+◌, ◌<◌, ◌≤◌, ◌^◌, List, All, length}
+use Rattle.std.specs.Prelude.{ℕ, ◌+◌, ◌≤◌, List, All, length}
 use Rattle.fan_world.specs.Queue.{QueueState}
 
 -- a queue has handed out, or will, no more descriptors than so many

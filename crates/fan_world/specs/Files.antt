@@ -1,5 +1,5 @@
 -- The files of the model: objects with numbers, found by their paths.
-use Rattle.std.specs.Prelude.{ℕ, ◌+◌, ◌==◌, List, [], ◌∷◌, ◌++◌, Option, option_map, find, nat_lt, if◌then◌else◌, map}
+use Rattle.std.specs.Prelude.{ℕ, List, Option, option_map, find}
 use Rattle.std.specs.Str.{bytes_eq}
 use Rattle.fan_world.specs.declared.files.File.{File}
 

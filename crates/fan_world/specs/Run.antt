@@ -1,5 +1,6 @@
 -- `run`: the single step of an access, repeated until one ends it.
 use Rattle.std.specs.Prelude.{ℕ, zero, suc, List, [], ◌∷◌, Bool, true, false, if◌then◌else◌}
+use Rattle.fan_bits.specs.declared.errno.Errno.TheVariants as errno
 use Rattle.fan_world.specs.declared.step.Step.{Step}
 use Rattle.fan_world.specs.declared.step.Step.TheVariants as steps
 use Rattle.fan_world.specs.declared.step.Reply.{Reply}
@@ -34,6 +35,17 @@ ran (suc count) world access =
 -- no run needs more single steps: each of 128 groups may be asked, answer and be told, and then it ends
 unfoldable pub most_answers : ℕ
 most_answers = 385
+
+-- the answers of an open access up to its last: groups that were told or are closed, and then `done`
+pub data RunsToDone : List Reply → Type 0 where
+  finished : RunsToDone (replies.Out outcomes.Done ∷ [])
+  queued : {group : ℕ} {more : List Reply} → RunsToDone more → RunsToDone (replies.Out (outcomes.Queued group) ∷ more)
+  closed : {group : ℕ} {more : List Reply} → RunsToDone more → RunsToDone (replies.Out (outcomes.Closed group) ∷ more)
+
+-- the answers of a whole run: those of an open access up to its last, or ESRCH alone where none is open
+pub data IsWholeRun : List Reply → Type 0 where
+  opened : {answers : List Reply} → RunsToDone answers → IsWholeRun answers
+  not_open : IsWholeRun (replies.Refused errno.Esrch ∷ [])
 
 -- the state after a list of steps
 abbrev pub after_steps : WorldState → List Step → WorldState

@@ -1,4 +1,4 @@
-use Rattle.std.proofs.Common.{◌≡◌, Some, Err, rules, arith, sym}
+use Rattle.std.proofs.Common.{◌≡◌, Some, Err, rules}
 use Rattle.std.specs.Prelude.{slice_get}
 use Rattle.std.proofs.lemmas.Option.{slice_get_read}
 use Rattle.fan_world.specs.Queue.{read_of}

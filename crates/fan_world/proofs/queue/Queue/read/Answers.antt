@@ -1,4 +1,4 @@
-use Rattle.std.proofs.Common.{rules, arith, ◌≡◌, ◌≤◌, ◌<◌, ◌/◌, min, length, take, drop}
+use Rattle.std.proofs.Common.{rules, arith, ◌≡◌, ◌<◌, ◌/◌, min, length, take, drop}
 use Rattle.std.proofs.lemmas.List.{take_rest}
 use Rattle.fan_world.specs.Queue.{records}
 use Rattle.fan_world.proofs.Reading.{read_nothing, read_small, read_some}

@@ -1,4 +1,4 @@
-use Rattle.std.proofs.Common.{List, arith, ap}
+use Rattle.std.proofs.Common.{List, ap}
 use Rattle.fan_world.specs.declared.step.Reply.{Reply}
 use Rattle.fan_world.specs.Accesses.{AccessState}
 use Rattle.fan_world.specs.Queue.{QueueState}
