@@ -9,7 +9,8 @@ pub one_word : {A : Type 0} (f : A → List ℕ) (words : List A) (word : A) (te
 one_word f [] word text same one is eq = absurd (omega arith)
 one_word f (first ∷ []) word text same one is eq =
     let compares = bytes_eq-Decides (f first) text in
-    let by_first : same ≡ bytes_eq (f first) text = eq ∙ ap (λ w. bytes_eq (f w) text) is in
-    (λ yes. let equal : f first ≡ text = compares.0 (sym by_first ∙ yes) in ap (λ t. t ∷ []) equal,
-     λ listed. let equal : f first ≡ text = cc in by_first ∙ compares.1 equal)
+    let by_first : same ≡ bytes_eq (f first) text = eq ∙ ap (λ w. bytes_eq (f w) text) is in (
+      λ yes. let equal : f first ≡ text = compares.0 (sym by_first ∙ yes) in ap (λ t. t ∷ []) equal,
+      λ listed. let equal : f first ≡ text = cc in by_first ∙ compares.1 equal,
+    )
 one_word f (first ∷ second ∷ more) word text same one is eq = absurd (omega arith)

@@ -59,8 +59,10 @@ module _ (script written rest line more : List ℕ) (world : WorldState) (used :
 
   -- a good line was answered
   pub leads_more : (text : List ℕ) (next_world : WorldState) (next_used : Used) → text ≡ (turn world used number line).0 → (turn world used number line).1 ≡ Some (next_world, next_used) → Leads script (written ++ text) more next_world next_used (number + 1)
-  leads_more text next_world next_used said start = record { is =
-    turned ∙ rw (start, said) (ap (λ all. (all, (played (lines_of more) next_world next_used (number + 1)).1)) (sym (append_assoc written (turn world used number line).0 (played (lines_of more) next_world next_used (number + 1)).0))) }
+  leads_more text next_world next_used said start = record {
+    is =
+        turned ∙ rw (start, said) (ap (λ all. (all, (played (lines_of more) next_world next_used (number + 1)).1)) (sym (append_assoc written (turn world used number line).0 (played (lines_of more) next_world next_used (number + 1)).0)));
+  }
 
   -- a bad line ends the transcript
   pub leads_bad : (text : List ℕ) → text ≡ (turn world used number line).0 → (turn world used number line).1 ≡ None → play script ≡ (written ++ text, statuses.BadLine)
@@ -69,8 +71,8 @@ module _ (script written rest line more : List ℕ) (world : WorldState) (used :
   -- the text of the next line stands behind what is printed
   pub text_here : (rest_text : List ℕ) × ((play script).0 ≡ written ++ ((turn world used number line).0 ++ rest_text))
   text_here =
-    let next = text_after (turn world used number line).1 (λ next_world next_used. played (lines_of more) next_world next_used (number + 1)) (turn world used number line).0 in
-    (next.0, ap (λ (r : List ℕ × Status). r.0) turned ∙ ap (λ text. written ++ text) next.1)
+      let next = text_after (turn world used number line).1 (λ next_world next_used. played (lines_of more) next_world next_used (number + 1)) (turn world used number line).0 in
+      (next.0, ap (λ (r : List ℕ × Status). r.0) turned ∙ ap (λ text. written ++ text) next.1)
 
 -- at the end all is printed
 pub leads_end : {script written rest : List ℕ} {world : WorldState} {used : Used} {number : ℕ} → Leads script written rest world used number → length rest ≡ 0 → play script ≡ (written, statuses.Ok)
@@ -80,10 +82,11 @@ leads_end {script} {written} {rest} leads none = leads.is ∙ rw (nil_from_lengt
 -- a front of one text, put behind the texts before it, is a front of the whole
 pub front_behind : (old mid new : Option (List ℕ)) (written text rest all : List ℕ) → Appends old mid written → AppendsFront mid new text → all ≡ written ++ (text ++ rest) → AppendsFront old new all
 front_behind old mid new written text rest all before front is = record {
-    put = written ++ front.put;
-    rest = front.rest ++ rest;
-    whole = rw (is, ← front.whole) (simp append_assoc);
-    appended = Appends-trans old mid new written front.put before front.appended }
+  put = written ++ front.put;
+  rest = front.rest ++ rest;
+  whole = rw (is, ← front.whole) (simp append_assoc);
+  appended = Appends-trans old mid new written front.put before front.appended;
+}
 
 -- texts that were put whole are a front of the whole
 pub front_whole : (old new : Option (List ℕ)) (written rest all : List ℕ) → Appends old new written → all ≡ written ++ rest → AppendsFront old new all

@@ -29,8 +29,9 @@ whole_piece : (bytes : List ℕ) → length bytes ≤ position_or_len is_lf byte
 whole_piece [] none = refl
 whole_piece (byte ∷ bytes) none =
     elim (is_lf byte) as (λ (lf : Bool). length (byte ∷ bytes) ≤ cond (not lf) (1 + position_or_len is_lf bytes) 0 → cond lf ([] ∷ slice_split is_lf bytes) (onto_first byte (slice_split is_lf bytes)) ≡ (byte ∷ bytes) ∷ []) [
-        true ↦ λ past. absurd (omega arith)
-      | false ↦ λ past. rw (whole_piece bytes (omega arith)) refl ] none
+      | true ↦ λ past. absurd (omega arith)
+      | false ↦ λ past. rw (whole_piece bytes (omega arith)) refl
+    ] none
 
 last_piece : (script : List ℕ) → 0 < length script → without_empty_last (script ∷ []) ≡ script ∷ without_empty_last ([] ∷ [])
 last_piece [] some = absurd (omega arith)

@@ -13,11 +13,13 @@ mod status;
 mod texts;
 mod words;
 
+pub use laws::exactly_one_transcript;
+pub use line::{Line, LineRefused, at_most_one_line, read_line};
 pub use plain::run_plain;
 pub use script::Used;
 pub use status::Status;
-pub use laws::exactly_one_transcript;
-pub use line::{Line, LineRefused, at_most_one_line, read_line};
 
 #[cfg(test)]
 mod line_tests;
+#[cfg(test)]
+mod tests;

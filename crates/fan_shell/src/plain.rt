@@ -46,12 +46,17 @@ fn write_usage<K: Sink>(sink: &mut K) -> Status
 fn run_script<S: Source, K: Sink>(alloc: Global, source: &mut S, sink: &mut K) -> Status
     ensures told { IsTold result
         → IfSome (S.left source.old) (λ bytes. Tells (K.held sink.old) (K.held sink.new) bytes result) }
-    ensures front { IfSome (S.left source.old) (λ bytes. TellsFront (K.held sink.old) (K.held sink.new) bytes) }
+    ensures front { IfSome (S.left source.old)
+        (λ bytes. TellsFront (K.held sink.old) (K.held sink.new) bytes) }
     ensures end { IsTold result → IsAtEnd (S.left source.new) }
-    ensures within { result ≢ Status.TooLong → GaveAtMost (S.left source.old) (S.left source.new) most_script }
-    ensures too_long { result ≡ Status.TooLong → GaveMore (S.left source.old) (S.left source.new) most_script }
-    ensures read_fault { result ≡ Status.ReadFault → Rose (S.faults source.old) (S.faults source.new) }
-    ensures write_fault { result ≡ Status.WriteFault → Rose (K.faults sink.old) (K.faults sink.new) }
+    ensures within { result ≢ Status.TooLong
+        → GaveAtMost (S.left source.old) (S.left source.new) most_script }
+    ensures too_long { result ≡ Status.TooLong
+        → GaveMore (S.left source.old) (S.left source.new) most_script }
+    ensures read_fault { result ≡ Status.ReadFault
+        → Rose (S.faults source.old) (S.faults source.new) }
+    ensures write_fault { result ≡ Status.WriteFault
+        → Rose (K.faults sink.old) (K.faults sink.new) }
     ensures unread { (result ≡ Status.ReadFault) ⊎ (result ≡ Status.TooLong) → sink.new ≡ sink.old }
     ensures others { EndsScript result }
 {
@@ -84,19 +89,25 @@ pub fn run_plain<S: Source, K: Sink>(
     ensures unread { (result ≡ Status.ReadFault) ⊎ (result ≡ Status.TooLong) → sink.new ≡ sink.old }
 
     // When a fault comes, and when too many bytes.
-    ensures read_fault { result ≡ Status.ReadFault → Rose (S.faults source.old) (S.faults source.new) }
-    ensures write_fault { result ≡ Status.WriteFault → Rose (K.faults sink.old) (K.faults sink.new) }
-    ensures too_long { result ≡ Status.TooLong → GaveMore (S.left source.old) (S.left source.new) most_script }
+    ensures read_fault { result ≡ Status.ReadFault
+        → Rose (S.faults source.old) (S.faults source.new) }
+    ensures write_fault { result ≡ Status.WriteFault
+        → Rose (K.faults sink.old) (K.faults sink.new) }
+    ensures too_long { result ≡ Status.TooLong
+        → GaveMore (S.left source.old) (S.left source.new) most_script }
     ensures not_too_long { result ≢ Status.TooLong
         → GaveAtMost (S.left source.old) (S.left source.new) most_script }
 
     // Words that are no command.
     ensures usage { result ≡ Status.Usage → Appends (K.held sink.old) (K.held sink.new) usage_line }
-    ensures usage_words { result ≡ Status.Usage → IsScript (map (λ word. string_bytes word) words.now) → ⊥ }
-    ensures other_words { (IsScript (map (λ word. string_bytes word) words.now) → ⊥) → EndsUsage result }
+    ensures usage_words { result ≡ Status.Usage → IsScript (map
+        (λ word. string_bytes word) words.now) → ⊥ }
+    ensures other_words { (IsScript (map (λ word. string_bytes word) words.now) → ⊥)
+        → EndsUsage result }
     ensures usage_front { (IsScript (map (λ word. string_bytes word) words.now) → ⊥)
         → AppendsFront (K.held sink.old) (K.held sink.new) usage_line }
-    ensures untouched { (IsScript (map (λ word. string_bytes word) words.now) → ⊥) → source.new ≡ source.old }
+    ensures untouched { (IsScript (map (λ word. string_bytes word) words.now) → ⊥) → source.new
+        ≡ source.old }
 {
     if is_script(words) {
         run_script(alloc, source, sink)

@@ -34,8 +34,10 @@ fn push_answer(
     requires { world.old.steps < 2 ^ 30 }
     ensures text { OnOk result (out.new.items
         ≡ out.old.items ++ reply_text (next world.old.state (steps.Advance access)).0) }
-    ensures state { OnOk result (world.new.state ≡ (next world.old.state (steps.Advance access)).1) }
-    ensures ends { IfOk result (λ ends. ends ≡ ends_run (next world.old.state (steps.Advance access)).0) }
+    ensures state { OnOk result (world.new.state
+        ≡ (next world.old.state (steps.Advance access)).1) }
+    ensures ends { IfOk result (λ ends. ends
+        ≡ ends_run (next world.old.state (steps.Advance access)).0) }
     ensures steps { world.new.steps ≤ world.old.steps + 1 }
 {
     let reply = world.step(&Step::Advance { access })?;
@@ -53,7 +55,8 @@ fn push_more(
     out: &mut Vec<u8>,
 ) -> Result<(), NoMemory>
     requires { world.old.steps + left ≤ 2 ^ 30 }
-    ensures text { OnOk result (out.new.items ≡ out.old.items ++ more_text (ran left world.old.state access).0) }
+    ensures text { OnOk result (out.new.items
+        ≡ out.old.items ++ more_text (ran left world.old.state access).0) }
     ensures state { OnOk result (world.new.state ≡ (ran left world.old.state access).1) }
     ensures steps { world.new.steps ≤ world.old.steps + left }
 {

@@ -52,7 +52,10 @@ impl Used {
     {
         match line {
             Line::One(Step::MkFile { .. }) => Used { file: true, ..self },
-            Line::One(Step::Init) => Used { group: true, ..self },
+            Line::One(Step::Init) => Used {
+                group: true,
+                ..self
+            },
             Line::One(Step::Mark { .. }) => Used { mark: true, ..self },
             Line::One(Step::Begin { .. }) => Used {
                 access: true,
@@ -91,7 +94,8 @@ fn push_answered(
     out: &mut Vec<u8>,
 ) -> Result<(), NoMemory>
     requires { world.old.steps + 385 ≤ 2 ^ 30 }
-    ensures text { OnOk result (out.new.items ≡ out.old.items ++ (answered world.old.state line.now).0) }
+    ensures text { OnOk result (out.new.items
+        ≡ out.old.items ++ (answered world.old.state line.now).0) }
     ensures state { OnOk result (world.new.state ≡ (answered world.old.state line.now).1) }
     ensures steps { world.new.steps ≤ world.old.steps + 385 }
 {

@@ -57,7 +57,8 @@ pub(crate) fn advance(
     accesses: &mut Vec<Access>,
     number: u32,
 ) -> Result<Reply, NoMemory>
-    ensures ok { IfOk result (λ reply. (reply, queues.new.items, accesses.new.items) ≡ advanced queues.old.items accesses.old.items number) }
+    ensures ok { IfOk result (λ reply. (reply, queues.new.items, accesses.new.items)
+        ≡ advanced queues.old.items accesses.old.items number) }
     ensures queues { OnErr result (queues.new.items ≡ queues.old.items) }
     ensures accesses { OnErr result (accesses.new.items ≡ accesses.old.items) }
 {
@@ -98,7 +99,8 @@ fn step_at(
 // Tells a group of an event.
 #[tactic(auto, unfolding(crate::specs::World::told))]
 fn tell(queues: &mut Vec<Queue>, group: u32, event: Event) -> Result<StepOutcome, NoMemory>
-    ensures ok { IfOk result (λ outcome. (outcome, queues.new.items) ≡ told queues.old.items group event) }
+    ensures ok { IfOk result (λ outcome. (outcome, queues.new.items)
+        ≡ told queues.old.items group event) }
     ensures err { OnErr result (queues.new.items ≡ queues.old.items) }
 {
     match place_of_group(queues, group) {

@@ -37,7 +37,8 @@ pub(crate) fn make_file(
     path: &[u8],
 ) -> Result<Reply, NoMemory>
     requires { next_object.old ≤ 65536 }
-    ensures ok { IfOk result (λ reply. (reply, files.new.items, next_object.new) ≡ made files.old.items next_object.old path.now) }
+    ensures ok { IfOk result (λ reply. (reply, files.new.items, next_object.new)
+        ≡ made files.old.items next_object.old path.now) }
     ensures objects { next_object.new ≤ 65536 }
     ensures files { OnErr result (files.new.items ≡ files.old.items) }
     ensures next_object { OnErr result (next_object.new ≡ next_object.old) }

@@ -14,7 +14,8 @@ use std::alloc::Global;
 
 /// The place of a group's queue in the list.
 pub(crate) fn place_of_group(queues: &[Queue], group: u32) -> Option<usize>
-    ensures found { IfSome result (λ place. queue_at queues.now group ≡ slice_get queues.now place) }
+    ensures found { IfSome result (λ place. queue_at queues.now group
+        ≡ slice_get queues.now place) }
     ensures place { IfSome result (λ place. place ≡ group - 1) }
     ensures within { IfSome result (λ place. place < length queues.now) }
     ensures none { IfNone result (queue_at queues.now group ≡ None) }
@@ -55,7 +56,8 @@ pub(crate) fn mark_file(
     group: u32,
     path: &[u8],
 ) -> Result<Reply, NoMemory>
-    ensures ok { IfOk result (λ reply. (reply, marks.new.items) ≡ marked queues.now files.now marks.old.items group path.now) }
+    ensures ok { IfOk result (λ reply. (reply, marks.new.items)
+        ≡ marked queues.now files.now marks.old.items group path.now) }
     ensures err { OnErr result (marks.new.items ≡ marks.old.items) }
 {
     if place_of_group(queues, group).is_none() {
@@ -79,7 +81,8 @@ pub(crate) fn read_group(
     size: u32,
 ) -> Result<Reply, NoMemory>
     requires { AreBounded (2 ^ 30) queues.old.items }
-    ensures ok { IfOk result (λ reply. (reply, queues.new.items) ≡ read_from queues.old.items group size) }
+    ensures ok { IfOk result (λ reply. (reply, queues.new.items)
+        ≡ read_from queues.old.items group size) }
     ensures err { OnErr result (queues.new.items ≡ queues.old.items) }
 {
     match place_of_group(queues, group) {

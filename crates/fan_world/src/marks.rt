@@ -33,7 +33,8 @@ pub(crate) fn add_mark(alloc: Global, marks: &mut Vec<Mark>, mark: Mark) -> Resu
 }
 
 fn before(alloc: Global, marks: &[Mark], mark: Mark) -> Result<Vec<Mark>, NoMemory>
-    ensures { IfOk result (λ found. found.items ≡ filter (λ other. is_before other mark) marks.now) }
+    ensures { IfOk result (λ found. found.items ≡ filter
+        (λ other. is_before other mark) marks.now) }
 {
     Ok(
         marks
@@ -45,7 +46,8 @@ fn before(alloc: Global, marks: &[Mark], mark: Mark) -> Result<Vec<Mark>, NoMemo
 }
 
 fn behind(alloc: Global, marks: &[Mark], mark: Mark) -> Result<Vec<Mark>, NoMemory>
-    ensures { IfOk result (λ found. found.items ≡ filter (λ other. is_before mark other) marks.now) }
+    ensures { IfOk result (λ found. found.items ≡ filter
+        (λ other. is_before mark other) marks.now) }
 {
     Ok(
         marks

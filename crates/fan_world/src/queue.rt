@@ -54,8 +54,10 @@ impl Queue {
     /// Reads the events whose records fit into `size` bytes. They leave the queue.
     pub fn read(&mut self, alloc: Global, size: u32) -> Result<Result<Vec<u8>, Errno>, NoMemory>
         requires { self.old.next_fd + length self.old.events < 2 ^ 31 }
-        ensures read { IfOk result (λ read. IfOk read (λ bytes. read_of self.old size ≡ Ok (bytes.items, self.new))) }
-        ensures refused { IfOk result (λ read. IfErr read (λ errno. read_of self.old size ≡ Err errno)) }
+        ensures read { IfOk result (λ read. IfOk read (λ bytes. read_of self.old size
+            ≡ Ok (bytes.items, self.new))) }
+        ensures refused { IfOk result (λ read. IfErr read (λ errno. read_of self.old size
+            ≡ Err errno)) }
         ensures unread { IfOk result (λ read. OnErr read (self.new ≡ self.old)) }
         ensures err { OnErr result (self.new ≡ self.old) }
     {

@@ -11,10 +11,11 @@ use Rattle.fan_shell.proofs.script.write_transcript.Goals as goal
 
 pub loop-rest-init : goal.loop-rest-init
 loop-rest-init g c = rw c.new-world.ensures (record {
-    put = ([], Appends-nil _, leads_start c.args.script.now);
-    steps = omega arith;
-    numbers = omega arith;
-    later = omega arith })
+  put = ([], Appends-nil _, leads_start c.args.script.now);
+  steps = omega arith;
+  numbers = omega arith;
+  later = omega arith;
+})
 
 pub returns-in-Err-put_all-clause-front : goal.returns-in-Err-put_all-clause-front
 returns-in-Err-put_all-clause-front g c =
@@ -43,11 +44,15 @@ loop-rest-preserved g c =
     let start : (turn c.loop-rest.world.state c.loop-rest.used c.loop-rest.number c.split_line.result.0.now).1 ≡ Some (c.answer_line.new.world.state, c.answer_line.new.used) = rw c.if-not-good.false at c.in-Ok.ensures.start in
     let long : 5 ≤ length c.split_line.result.0.now = c.in-Ok.ensures.long c.if-not-good.false in
     record {
-        put = (put.0 ++ c.deref.result.now, Appends-trans _ _ _ put.0 c.deref.result.now put.1 c.in-Ok-put_all.ensures.whole,
-            leads_more c.args.script.now put.0 c.loop-rest.rest.now c.split_line.result.0.now c.split_line.result.1.now _ _ _ put.2 c.split_line.ensures.lines c.deref.result.now _ _ said start);
-        steps = omega (arith, long, c.in-Ok.ensures.steps);
-        numbers = omega (arith, c.split_line.ensures.shorter);
-        later = omega (arith, c.in-Ok-put_all.ensures.cause.kept) }
+      put = (
+        put.0 ++ c.deref.result.now,
+        Appends-trans _ _ _ put.0 c.deref.result.now put.1 c.in-Ok-put_all.ensures.whole,
+        leads_more c.args.script.now put.0 c.loop-rest.rest.now c.split_line.result.0.now c.split_line.result.1.now _ _ _ put.2 c.split_line.ensures.lines c.deref.result.now _ _ said start,
+      );
+      steps = omega (arith, long, c.in-Ok.ensures.steps);
+      numbers = omega (arith, c.split_line.ensures.shorter);
+      later = omega (arith, c.in-Ok-put_all.ensures.cause.kept);
+    }
 
 pub returns-clause-told : goal.returns-clause-told
 returns-clause-told g c = λ _.

@@ -9,7 +9,8 @@ invariant-loop-rest g l = record {
   put : (written : List ℕ) × Appends (g.K.Sink.held l.fn.sink) (g.K.Sink.held l.sink) written × Leads l.script written l.rest l.world.state l.used l.number;
   steps : 5 * l.world.steps + 385 * length l.rest ≤ 385 * length l.script;
   numbers : l.number + length l.rest ≤ length l.script + 1;
-  later : g.K.Sink.faults l.fn.sink ≤ g.K.Sink.faults l.sink; }
+  later : g.K.Sink.faults l.fn.sink ≤ g.K.Sink.faults l.sink;
+}
 
 abbrev pub decreases-loop-rest : goal.decreases-loop-rest
 decreases-loop-rest g l = length l.rest
