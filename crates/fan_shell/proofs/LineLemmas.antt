@@ -20,6 +20,7 @@ unfolding line_at
 line_takes bytes line e =
     bind_some _ _ _ e (λ (parts : List ℕ × List ℕ) cut more. rw (split_takes bytes parts.0 parts.1 cut) (form_takes parts.0 parts.1 line more))
 
+-- a name and fields that are read are read as a line
 by_form : (name fields bytes : List ℕ) (line : Line) → is_spaceless name ≡ true → bytes ≡ name ++ 32 ∷ fields → form_at name fields ≡ Some line → line_at bytes ≡ Some line
 unfolding line_at
 by_form name fields bytes line spaceless spelled e = rw (spelled, split_again name fields spaceless) e
@@ -56,10 +57,12 @@ pub found_from : (bytes : List ℕ) (result : Result Line LineRefused) → Gives
 found_from bytes (Ok line) read = line_takes bytes line read
 found_from bytes (Err refused) read = tt
 
+-- a reader that gave a line took five bytes at least
 pub long_from : (bytes : List ℕ) (result : Result Line LineRefused) → Gives (λ line. line) result (line_at bytes) → OnOk result (5 ≤ length bytes)
 long_from bytes (Ok line) read = line_long bytes line (line_takes bytes line read)
 long_from bytes (Err refused) read = tt
 
+-- a reader that called the bytes a bad line took none that is a line
 pub bad_from : (bytes : List ℕ) (result : Result Line LineRefused) → Gives (λ line. line) result (line_at bytes) → result ≡ Err BadLine → (line : Line) → LineOf bytes line → ⊥
 bad_from bytes (Ok line) read bad other of_other = absurd cc
 bad_from bytes (Err BadLine) read bad other of_other = let again = line_again bytes other of_other in absurd cc

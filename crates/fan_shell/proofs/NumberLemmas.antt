@@ -15,9 +15,11 @@ use Rattle.fan_shell.specs.Reading.{is_decimal, number_at, number_and_rest}
 use Rattle.fan_shell.proofs.OptionLemmas.{bind_some, fail_some, fail_true}
 use Rattle.fan_shell.proofs.WordLemmas.{is_space, is_spaceless, split_takes, split_again}
 
+-- each byte is a digit
 abbrev pub are_digits : List ℕ → Bool
 are_digits = list_all is_ascii_digit
 
+-- the digits and their value, in the words of std
 pub own : IsNumeralModel (λ ds. are_digits ds ≡ true) (digits_value 10)
 own = numerals_by_value _ (search rules)
 
@@ -40,17 +42,20 @@ pub record IsDecimal (word : List ℕ) : Type 0 where
   pub digits : are_digits word ≡ true
   pub first : get_or word 0 0 ≡ 48 → length word ≡ 1
 
+-- a zero alone is digits
 one_zero : (word : List ℕ) → get_or word 0 0 ≡ 48 → length word ≡ 1 → are_digits word ≡ true
 one_zero [] zero one = refl
 one_zero (c ∷ []) zero one = rw zero refl
 one_zero (c ∷ d ∷ ds) zero one = absurd (omega (arith, one))
 
+-- what the test of the first digit leaves
 by_first : (word : List ℕ) (b : Bool) → eqb (get_or word 0 0) 48 ≡ b → cond b (eqb (length word) 1) (are_digits word) ≡ true → (are_digits word ≡ true) × (get_or word 0 0 ≡ 48 → length word ≡ 1)
 by_first word true e h =
     let one = eqb-true _ _ h in
     (one_zero word (eqb-true _ _ e) one, λ _. one)
 by_first word false e h = (h, λ zero. absurd (eqb-false _ _ e zero))
 
+-- what the test of a decimal tells
 pub decimal_parts : (word : List ℕ) → is_decimal word ≡ true → IsDecimal word
 unfolding is_decimal
 decimal_parts word e =
@@ -60,6 +65,7 @@ decimal_parts word e =
     let nonempty : length word ≡ 0 → ⊥ = eqb-false _ _ some.0 in
     record { some = omega arith; short = ltb-false _ _ short.0; digits = first.0; first = first.1 }
 
+-- a decimal passes the test
 decimal_again : (word : List ℕ) → IsDecimal word → is_decimal word ≡ true
 unfolding is_decimal
 decimal_again word h =
@@ -70,6 +76,7 @@ decimal_again word h =
       | inr other ↦ let no_zero : eqb (get_or word 0 0) 48 ≡ false = ne_eqb _ _ other in rw (some, short, no_zero) h.digits
     ]
 
+-- only the decimal of 0 begins with a zero
 first_of_decimal : (n : ℕ) → n < 2 ^ 32 → get_or (decimal n) 0 0 ≡ 48 → length (decimal n) ≡ 1
 first_of_decimal n small zero =
     elim (cases_eq n 0) [
@@ -77,6 +84,7 @@ first_of_decimal n small zero =
       | inr some ↦ absurd (omega (arith, first_decimal n (omega arith) (omega arith)))
     ]
 
+-- what decimal writes is a decimal of a line
 decimal_is : (n : ℕ) → n < 2 ^ 32 → IsDecimal (decimal n)
 decimal_is n small = record {
   some = decimal_nonempty n (omega arith);
@@ -91,6 +99,7 @@ pub record IsNumeral (least most : ℕ) (word : List ℕ) (n : ℕ) : Type 0 whe
   pub low : least ≤ n
   pub high : n ≤ most
 
+-- the word that is read is the decimal of a number in range
 pub number_takes : (least most : ℕ) (word : List ℕ) (n : ℕ) → number_at least most word ≡ Some n → IsNumeral least most word n
 unfolding number_at
 number_takes least most word n e =
@@ -106,6 +115,7 @@ number_takes least most word n e =
       high = omega (arith, ltb-false _ _ high.0);
     }
 
+-- the decimal of a number in range is read again
 pub number_again : (least most n : ℕ) → least ≤ n → n ≤ most → most < 2 ^ 32 → number_at least most (decimal n) ≡ Some n
 unfolding number_at
 number_again least most n low high top =
@@ -115,6 +125,7 @@ number_again least most n low high top =
     let not_high : ltb most n ≡ false = le-ltb _ _ high in
     rw (numeral, value, not_low, not_high) refl
 
+-- digits have no space among them
 digits_spaceless : (word : List ℕ) → are_digits word ≡ true → is_spaceless word ≡ true
 digits_spaceless [] digits = refl
 digits_spaceless (c ∷ word) digits =
@@ -132,6 +143,7 @@ pub record IsNumberBefore (least most : ℕ) (bytes : List ℕ) (n : ℕ) (rest 
   pub low : least ≤ n
   pub high : n ≤ most
 
+-- the first word that is read is the decimal of a number in range
 pub split_number_takes : (least most : ℕ) (bytes : List ℕ) (n : ℕ) (rest : List ℕ) → number_and_rest least most bytes ≡ Some (n, rest) → IsNumberBefore least most bytes n rest
 unfolding number_and_rest
 split_number_takes least most bytes n rest e =
@@ -145,6 +157,7 @@ split_number_takes least most bytes n rest e =
       high = numeral.high;
     })))
 
+-- a decimal before a space is read again
 pub split_number_again : (least most n : ℕ) (rest : List ℕ) → least ≤ n → n ≤ most → most < 2 ^ 32 → number_and_rest least most (decimal n ++ 32 ∷ rest) ≡ Some (n, rest)
 unfolding number_and_rest
 split_number_again least most n rest low high top =

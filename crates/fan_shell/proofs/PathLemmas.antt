@@ -11,12 +11,15 @@ use Rattle.fan_shell.specs.Lines.{IsNameByte, IsName, IsPath}
 use Rattle.fan_shell.specs.Reading.{is_name_byte, is_name, is_path, path_at}
 use Rattle.fan_shell.proofs.OptionLemmas.{fail_true}
 
+-- the test of a byte tells whether it is a name byte
 name_byte_decides : (byte : ℕ) → Decides (is_name_byte byte) (IsNameByte byte)
 name_byte_decides byte = (λ e. grind (arith, nat_tests), λ h. grind (arith, nat_tests))
 
+-- the same of each byte of a name
 name_bytes_decides : (name : List ℕ) → Decides (list_all is_name_byte name) (All IsNameByte name)
 name_bytes_decides name = Decides-by_and is_name_byte IsNameByte (list_all is_name_byte) name_byte_decides refl (λ _ _. refl) name
 
+-- what passes the test is a name
 name_takes : (name : List ℕ) → is_name name ≡ true → IsName name
 unfolding is_name
 name_takes name e =
@@ -33,9 +36,11 @@ name_takes name e =
       not_dots = not_from_Decides _ (bytes_eq-Decides name (codes "..")) dots.0;
     }
 
+-- two lists that differ fail the test of equality
 differs : (xs ys : List ℕ) → xs ≢ ys → bytes_eq xs ys ≡ false
 differs xs ys ne = false_from_ne_true _ (λ e. ne ((bytes_eq-Decides xs ys).0 e))
 
+-- a name passes the test
 name_again : (name : List ℕ) → IsName name → is_name name ≡ true
 unfolding is_name
 name_again name h =
@@ -45,6 +50,7 @@ name_again name h =
     let dots = differs name (codes "..") h.not_dots in
     rw (some, most, dot, dots) ((name_bytes_decides name).1 h.bytes)
 
+-- what passes the test is a path
 is_path_takes : (word : List ℕ) → is_path word ≡ true → IsPath word
 unfolding is_path
 is_path_takes [] e = absurd cc
@@ -56,6 +62,7 @@ is_path_takes (c ∷ name) e =
     by_slash true c e = (refl, e)
     by_slash false c e = absurd cc
 
+-- a slash and a name pass the test
 is_path_again : (name : List ℕ) → IsName name → is_path (47 ∷ name) ≡ true
 unfolding is_path
 is_path_again name h = name_again name h

@@ -10,6 +10,7 @@ use Rattle.std.proofs.lemmas.Option.{cond_some, some_pair_parts}
 use Rattle.fan_shell.specs.Reading.{split_at_space, rest_after}
 use Rattle.fan_shell.proofs.OptionLemmas.{bind_some}
 
+-- the byte between two words
 abbrev pub is_space : ℕ → Bool
 is_space byte = byte == 32
 
@@ -17,12 +18,14 @@ is_space byte = byte == 32
 abbrev pub is_spaceless : List ℕ → Bool
 is_spaceless word = list_all (λ byte. not (is_space byte)) word
 
+-- the first space stands behind a word that has none
 position_behind : (word rest : List ℕ) → is_spaceless word ≡ true → position_or_len is_space (word ++ 32 ∷ rest) ≡ length word
 position_behind [] rest h = refl
 position_behind (c ∷ word) rest h =
     let parts = and_parts (not (is_space c)) (is_spaceless word) h in
     rw (parts.0, position_behind word rest parts.1) (omega arith)
 
+-- what stands behind a word and one byte
 drop_behind : (word rest : List ℕ) (c : ℕ) → drop (length word + 1) (word ++ c ∷ rest) ≡ rest
 drop_behind word rest c = rw (← drop-drop 1 (length word) (word ++ c ∷ rest), drop_at word (c ∷ rest) (length word) refl) refl
 
@@ -34,6 +37,7 @@ split_again word rest h =
     let within : ltb (length word) (length (word ++ 32 ∷ rest)) ≡ true = lt-ltb _ _ (omega (arith, length-append word (32 ∷ rest))) in
     rw (place, within, take_at word (32 ∷ rest) (length word) refl, drop_behind word rest 32) refl
 
+-- the bytes are what stands before the first space, the space, and what stands behind it
 found_at : (bytes : List ℕ) (at : ℕ) → position is_space bytes ≡ Some at → bytes ≡ take at bytes ++ 32 ∷ drop (at + 1) bytes
 found_at bytes at e =
     let found = cond_some (ltb (position_or_len is_space bytes) (length bytes)) (position_or_len is_space bytes) at e in

@@ -63,6 +63,7 @@ number_and_rest least most bytes = do
 abbrev pub is_name_byte : ℕ → Bool
 is_name_byte byte = nat_le 33 byte && nat_le byte 126 && not (byte == 47)
 
+-- one to 255 name bytes, and neither one dot nor two
 unfoldable pub is_name : List ℕ → Bool
 is_name name =
     if length name == 0 then false
@@ -71,21 +72,26 @@ is_name name =
     else (if bytes_eq name (codes "..") then false
     else list_all is_name_byte name)))
 
+-- a slash, and a name
 unfoldable pub is_path : List ℕ → Bool
 is_path [] = false
 is_path (first ∷ name) = if first == 47 then is_name name else false
 
+-- the path that a word spells
 unfoldable pub path_at : List ℕ → Option (List ℕ)
 path_at word = if is_path word then Some word else None
 
+-- a path
 unfoldable pub mkfile_at : List ℕ → Option Line
 mkfile_at fields = do
   path ← path_at fields
   Some (One (MkFile path))
 
+-- the flags 0
 unfoldable pub init_at : List ℕ → Option Line
 init_at fields = if bytes_eq fields (codes "0") then Some (One Init) else None
 
+-- a group, the flags 1, the mask 20 and a path
 unfoldable pub mark_at : List ℕ → Option Line
 mark_at fields = do
   group ← number_and_rest 1 4294967295 fields
@@ -94,6 +100,7 @@ mark_at fields = do
   path ← path_at last
   Some (One (Mark group.0 path))
 
+-- an access, a process, a thread, the word open and a path
 unfoldable pub begin_at : List ℕ → Option Line
 begin_at fields = do
   access ← number_and_rest 1 4294967295 fields
@@ -103,11 +110,13 @@ begin_at fields = do
   path ← path_at last
   Some (One (Begin access.0 pid.0 tid.0 path))
 
+-- an access
 unfoldable pub run_at : List ℕ → Option Line
 run_at fields = do
   access ← number_at 1 4294967295 fields
   Some (Run access)
 
+-- a group and a size
 unfoldable pub read_at : List ℕ → Option Line
 read_at fields = do
   group ← number_and_rest 1 4294967295 fields
