@@ -1,5 +1,5 @@
 -- How an event is put on a group's queue: fanotify(7).
-use Rattle.std.specs.Prelude.{ℕ, ◌+◌, ◌==◌, nat_le, Bool, true, false, not, ◌&&◌, if◌then◌else◌, List, [], ◌∷◌, ◌++◌, length, find, Option, Some, None}
+use Rattle.std.specs.Prelude.{ℕ, ◌+◌, ◌==◌, nat_le, Bool, true, false, not, ◌&&◌, if◌then◌else◌, List, [], ◌∷◌, ◌++◌, length, find, Option, Some, None, option_map}
 use Rattle.std.specs.Int.RustNames.{bit_or}
 use Rattle.fan_bits.specs.Words.{occurs, unlimited_queue}
 use Rattle.fan_listener.specs.declared.event.Target.{Target}
@@ -62,6 +62,10 @@ asks entry = elim entry.body [ Told event ↦ event.perm | Lost ↦ false ]
 abbrev pub number_of : Entry → ℕ
 number_of entry = entry.number
 
+-- the number of the first entry that passes
+abbrev pub first_number : (Entry → Bool) → List Entry → Option ℕ
+first_number test entries = option_map number_of (find test entries)
+
 -- the queue is as long as its limit allows
 unfoldable pub is_full : ListenerState → Bool
 is_full state = not (occurs state.flags unlimited_queue) && nat_le state.limit (length state.queue)
@@ -73,20 +77,20 @@ queued state body = record state {
     next_entry = state.next_entry + 1 }
 
 -- at the limit: the overflow entry stands for the event, and is made where there is none
-abbrev pub put_lost : ListenerState → Option Entry → Put × ListenerState
-put_lost state (Some entry) = (puts.Overflow entry.number, state)
+abbrev pub put_lost : ListenerState → Option ℕ → Put × ListenerState
+put_lost state (Some entry) = (puts.Overflow entry, state)
 put_lost state None = (puts.Overflow state.next_entry, queued state Lost)
 
 -- the first queued event with its key takes its bits; where there is none, it is queued last
-abbrev pub put_told : ListenerState → Event → Option Entry → Put × ListenerState
+abbrev pub put_told : ListenerState → Event → Option ℕ → Put × ListenerState
 put_told state event (Some entry) =
-    (puts.Merged entry.number, record state { queue = change_first (takes event) (merged event) state.queue })
+    (puts.Merged entry, record state { queue = change_first (takes event) (merged event) state.queue })
 put_told state event None = (puts.Queued state.next_entry, queued state (Told event))
 
 -- the first case that holds: closed, at the limit, merged, queued last; no permission event is merged
 unfoldable pub put : ListenerState → Event → Put × ListenerState
 put state event =
     if state.closed then (puts.Closed, state)
-    else if is_full state then put_lost state (find is_lost state.queue)
+    else if is_full state then put_lost state (first_number is_lost state.queue)
     else if event.perm then put_told state event None
-    else put_told state event (find (takes event) state.queue)
+    else put_told state event (first_number (takes event) state.queue)

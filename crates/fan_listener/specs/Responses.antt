@@ -1,5 +1,5 @@
 -- How permission events get their answers: fanotify(7).
-use Rattle.std.specs.Prelude.{ℕ, ◌==◌, ◌^◌, nat_lt, Bool, true, if◌then◌else◌, List, [], ◌∷◌, ◌++◌, length, find, take, drop, Option, Some, None, Result, Ok, Err}
+use Rattle.std.specs.Prelude.{ℕ, ◌==◌, ◌^◌, nat_lt, Bool, true, if◌then◌else◌, List, [], ◌∷◌, ◌++◌, length, find, take, drop, Option, Some, None, option_map, Result, Ok, Err}
 use Rattle.std.specs.Int.{from_le_bytes, w32}
 use Rattle.fan_listener.specs.declared.answers.Answer.{Answer}
 use Rattle.fan_listener.specs.declared.answers.Answer.TheVariants as answers
@@ -19,27 +19,36 @@ is_under fd pending = pending.fd == fd
 abbrev pub is_to : ℕ → Kept → Bool
 is_to entry kept = kept.entry == entry
 
+-- what was answered
+abbrev pub answer_in : Kept → Answer
+answer_in kept = kept.answer
+
+-- the entry of an event that waits
+abbrev pub entry_of : Pending → ℕ
+entry_of pending = pending.entry
+
 -- FAN_ALLOW is 1 and FAN_DENY is 2
 unfoldable pub verdict : ℕ → Option Answer
 verdict value =
     if value == 1 then Some answers.Allowed else if value == 2 then Some answers.Denied else None
 
--- the event that waits under a descriptor, which is a signed number: none waits under a negative one
-unfoldable pub waiting_under : ListenerState → ℕ → Option Pending
-waiting_under state fd = if nat_lt fd (2 ^ 31) then find (is_under fd) state.pending else None
+-- the entry that waits under a descriptor, which is a signed number: none waits under a negative one
+unfoldable pub waiting_under : ℕ → List Pending → Option ℕ
+waiting_under fd pending =
+    if nat_lt fd (2 ^ 31) then option_map entry_of (find (is_under fd) pending) else None
 
--- the event that waited has its answer
-abbrev pub answered : ListenerState → Answer → Option Pending → Result (Answered × ListenerState) WriteRefused
-answered state answer None = Err refusals.NotPending
-answered state answer (Some waited) =
-    Ok (record { entry = waited.entry }, record state {
-        pending = without_first (is_under waited.fd) state.pending;
-        answers = state.answers ++ (record { entry = waited.entry; answer = answer }) ∷ [] })
+-- the entry that waited has its answer
+abbrev pub answered : ListenerState → ℕ → Answer → Option ℕ → Result (Answered × ListenerState) WriteRefused
+answered state fd answer None = Err refusals.NotPending
+answered state fd answer (Some entry) =
+    Ok (record { entry = entry }, record state {
+        pending = without_first (is_under fd) state.pending;
+        answers = state.answers ++ (record { entry = entry; answer = answer }) ∷ [] })
 
--- a response in form, with a descriptor and a value
+-- a response in form, with a descriptor and what its value stands for
 abbrev pub responded : ListenerState → ℕ → Option Answer → Result (Answered × ListenerState) WriteRefused
 responded state fd None = Err refusals.Value
-responded state fd (Some answer) = answered state answer (waiting_under state fd)
+responded state fd (Some answer) = answered state fd answer (waiting_under fd state.pending)
 
 -- a response: the entry that was answered and the listener after it, or why there is none
 unfoldable pub written : ListenerState → List ℕ → Result (Answered × ListenerState) WriteRefused
@@ -49,15 +58,16 @@ written state bytes =
         responded state (from_le_bytes w32 (take 4 bytes)) (verdict (from_le_bytes w32 (drop 4 bytes)))
     else Err refusals.Length
 
--- an answer that was given is taken; without one a closed listener answers Closed
-abbrev pub answer_taken : ListenerState → ℕ → Option Kept → Answer × ListenerState
-answer_taken state entry (Some kept) =
-    (kept.answer, record state { answers = without_first (is_to entry) state.answers })
-answer_taken state entry None = (if state.closed then answers.Closed else answers.Waiting, state)
+-- the answer that was given; without one a closed listener answers Closed
+abbrev pub answer_or_closed : Bool → Option Answer → Answer
+answer_or_closed closed (Some answer) = answer
+answer_or_closed closed None = if closed then answers.Closed else answers.Waiting
 
 -- the answer to the permission event of an entry, and the listener after it was taken
 unfoldable pub answer_of : ListenerState → ℕ → Answer × ListenerState
-answer_of state entry = answer_taken state entry (find (is_to entry) state.answers)
+answer_of state entry =
+    (answer_or_closed state.closed (option_map answer_in (find (is_to entry) state.answers)),
+     record state { answers = without_first (is_to entry) state.answers })
 
 -- closing frees the queue; events without an answer wait no more, and answers that were given stay
 unfoldable pub closed_of : ListenerState → ListenerState

@@ -1,16 +1,16 @@
 // The listener of a group that gets descriptors: fanotify(7).
-ghost use Rattle.std.specs.Prelude.{◌≡◌, ◌≢◌, ℕ, ◌^◌, ◌<◌, ◌≤◌, true, false, find, Ok, Err, IsOk, IfOk, IfErr, OnOk, OnErr};
+ghost use Rattle.std.specs.Prelude.{◌≡◌, ◌≢◌, ℕ, ◌^◌, ◌<◌, ◌≤◌, true, false, Ok, Err, IsOk, IfOk, IfErr, OnOk, OnErr};
 ghost use Rattle.fan_listener.specs.ListenerState.{new_listener};
-ghost use Rattle.fan_listener.specs.Queue.{put, put_lost, is_full, is_lost};
+ghost use Rattle.fan_listener.specs.Queue.{put, put_lost, is_full, is_lost, first_number};
 ghost use Rattle.fan_listener.specs.Records.{read_of, read_front, records, front_within};
 ghost use Rattle.fan_listener.specs.Responses.{written, answer_of, closed_of};
 ghost use Rattle.fan_listener.specs.Bounds.{Makes};
 
 use super::answers::{Answer, Answered, Kept, Pending, ReadRefused, WriteRefused};
 use super::event::Event;
-use super::queue::{Body, Entry, Put, lost_number, merge_at, place_of, push_entry, count_waiting};
+use super::queue::{Body, Entry, Put, count_waiting, lost_number, merge, push_entry};
 use super::records::{RECORD_LEN, front_len, take_entries};
-use super::responses::{fd_field, place_to, place_under, value_field, verdict};
+use super::responses::{fd_field, take_answer, take_waiting, value_field, verdict};
 use fan_bits::InitWords;
 use fan_io::NoMemory;
 use std::alloc::Global;
@@ -57,6 +57,7 @@ impl Model for Listener {
 impl Listener {
     /// A listener with nothing queued. Its queue has at most `limit` entries, the overflow entry among
     /// them, from 1 to 16,384; with FAN_UNLIMITED_QUEUE it has no limit.
+    #[tactic(auto, unfolding(crate::specs::ListenerState::new_listener))]
     pub fn new(alloc: Global, init: InitWords, limit: u32) -> Result<Listener, NoMemory>
         ensures { IfOk result (λ made. made ≡ new_listener init.bits limit) }
     {
@@ -89,6 +90,7 @@ impl Listener {
 
     /// Puts a permission event on the queue. It is never merged. Memory is found here for its answer too.
     /// `NoMemory` changes nothing.
+    #[tactic(auto, unfolding(crate::specs::Queue::put, crate::specs::Queue::queued))]
     pub fn ask(&mut self, event: Event) -> Result<Put, NoMemory>
         requires permission { event.perm ≡ true }
         requires entries { self.old.next_entry ≤ 2 ^ 31 }
@@ -112,6 +114,7 @@ impl Listener {
 
     /// Puts an event that is no permission event on the queue, or merges it into the one with its key.
     /// `NoMemory` changes nothing.
+    #[tactic(auto, unfolding(crate::specs::Queue::put, crate::specs::Queue::queued))]
     pub fn tell(&mut self, event: Event) -> Result<Put, NoMemory>
         requires notice { event.perm ≡ false }
         requires entries { self.old.next_entry ≤ 2 ^ 31 }
@@ -125,8 +128,7 @@ impl Listener {
         if self.is_full() {
             return self.lose();
         }
-        if let Some(at) = place_of(&self.queue, &event) {
-            let entry = merge_at(&mut self.queue, at, &event);
+        if let Some(entry) = merge(&mut self.queue, &event) {
             return Ok(Put::Merged { entry });
         }
         push_entry(&mut self.queue, self.next_entry, Body::Told(event))?;
@@ -136,6 +138,7 @@ impl Listener {
     }
 
     // Whether the queue is as long as its limit allows.
+    #[tactic(auto, unfolding(crate::specs::Queue::is_full))]
     fn is_full(&self) -> bool
         ensures { result ≡ is_full self.now }
     {
@@ -146,10 +149,12 @@ impl Listener {
     }
 
     // Lets the overflow entry stand for an event, and queues one where there is none.
+    #[tactic(auto, unfolding(crate::specs::Queue::queued))]
     fn lose(&mut self) -> Result<Put, NoMemory>
         requires { self.old.next_entry ≤ 2 ^ 31 }
-        ensures ok { IfOk result (λ outcome. (outcome, self.new) ≡ put_lost self.old (find is_lost self.old.queue)) }
+        ensures ok { IfOk result (λ outcome. (outcome, self.new) ≡ put_lost self.old (first_number is_lost self.old.queue)) }
         ensures err { OnErr result (self.new ≡ self.old) }
+        ensures moved { Makes 1 self.old self.new }
     {
         if let Some(entry) = lost_number(&self.queue) {
             return Ok(Put::Overflow { entry });
@@ -164,6 +169,7 @@ impl Listener {
     /// and permission events among them wait for an answer. `Closed`, `Again` where nothing is queued,
     /// and `Small` where the first record doesn't fit come in this order, and `NoMemory` after them.
     /// A refusal changes nothing.
+    #[tactic(auto, unfolding(crate::specs::Records::read_of))]
     pub fn read(&mut self, size: u32) -> Result<Vec<u8>, ReadRefused>
         requires { self.old.next_fd < 2 ^ 30 }
         ensures ok { IfOk result (λ bytes. read_of self.old size ≡ Ok (bytes.items, self.new)) }
@@ -188,6 +194,7 @@ impl Listener {
     }
 
     // Reads the front that fits.
+    #[tactic(auto, unfolding(crate::specs::Records::read_front))]
     fn read_front(&mut self, size: u32) -> Result<Vec<u8>, NoMemory>
         requires { self.old.next_fd < 2 ^ 30 }
         ensures bytes { IfOk result (λ bytes. bytes.items ≡ records self.old.next_fd (front_within size self.old.queue)) }
@@ -204,6 +211,7 @@ impl Listener {
 
     /// Takes a response of eight bytes: the descriptor, and 1 to allow or 2 to deny. `Closed`, `Length`,
     /// `Value` and `NotPending` come in this order, and change nothing. Takes no memory.
+    #[tactic(auto, unfolding(crate::specs::Responses::written))]
     pub fn write(&mut self, bytes: &[u8]) -> Result<Answered, WriteRefused>
         ensures ok { IfOk result (λ answered. written self.old bytes.now ≡ Ok (answered, self.new)) }
         ensures refused { IfErr result (λ why. written self.old bytes.now ≡ Err why) }
@@ -219,32 +227,30 @@ impl Listener {
         let Some(answer) = verdict(value_field(bytes)) else {
             return Err(WriteRefused::Value);
         };
-        let Some(at) = place_under(&self.pending, fd_field(bytes)) else {
+        let Some(entry) = take_waiting(&mut self.pending, fd_field(bytes)) else {
             return Err(WriteRefused::NotPending);
         };
-        let entry = self.pending.remove(at).entry;
         self.answers.push_reserved(Kept { entry, answer });
         Ok(Answered { entry })
     }
 
     /// The answer to the permission event of an entry. An answer other than `Waiting` is taken by this
     /// call. Without an answer it is `Closed` where the listener is, else `Waiting`. Takes no memory.
+    #[tactic(auto, unfolding(crate::specs::Responses::answer_of))]
     pub fn answer_of(&mut self, entry: u64) -> Answer
         ensures answer { (result, self.new) ≡ answer_of self.old entry }
         ensures moved { Makes 0 self.old self.new }
     {
-        if let Some(at) = place_to(&self.answers, entry) {
-            return self.answers.remove(at).answer;
-        }
-        if self.closed {
-            Answer::Closed
-        } else {
-            Answer::Waiting
+        match take_answer(&mut self.answers, entry) {
+            Some(answer) => answer,
+            None if self.closed => Answer::Closed,
+            None => Answer::Waiting,
         }
     }
 
     /// Closes the listener and frees its queue. Events without an answer wait no more, and an answer that
     /// was given stays. Takes no memory.
+    #[tactic(auto, unfolding(crate::specs::Responses::closed_of))]
     pub fn close(&mut self)
         ensures closed { self.new ≡ closed_of self.old }
         ensures moved { Makes 0 self.old self.new }

@@ -1,6 +1,7 @@
 // The queue of a group: entries, merging and the overflow entry.
-ghost use Rattle.std.specs.Prelude.{◌≡◌, ℕ, ◌<◌, ◌++◌, ◌∷◌, [], length, find, position, option_map, IsOk, OnOk, OnErr, slice_set, slice_get, Some, count_by};
-ghost use Rattle.fan_listener.specs.Queue.{takes, asks, is_lost, number_of, merged, with_bits};
+ghost use Rattle.std.specs.Prelude.{◌≡◌, ◌++◌, ◌∷◌, [], OnOk, OnErr, count_by, position};
+ghost use Rattle.fan_listener.specs.Queue.{takes, asks, is_lost, first_number, merged, with_bits};
+ghost use Rattle.fan_listener.specs.First.{change_first};
 
 use super::event::{Event, same_key};
 use fan_io::NoMemory;
@@ -37,6 +38,7 @@ pub struct Entry {
 }
 
 // Whether the entry takes the bits of an event.
+#[tactic(auto, unfolding(crate::specs::Queue::takes))]
 fn takes(entry: &Entry, event: &Event) -> bool
     ensures { result ≡ takes event.now entry.now }
 {
@@ -58,30 +60,31 @@ fn is_lost(entry: &Entry) -> bool
 
 // The number of the overflow entry.
 pub(crate) fn lost_number(entries: &[Entry]) -> Option<u64>
-    ensures { result ≡ option_map number_of (find is_lost entries.now) }
+    ensures { result ≡ first_number is_lost entries.now }
 {
     entries.iter().find(|entry| is_lost(entry)).map(|entry| entry.number)
 }
 
 // The place of the first entry that takes the bits of an event.
-pub(crate) fn place_of(entries: &[Entry], event: &Event) -> Option<usize>
+fn place_of(entries: &[Entry], event: &Event) -> Option<usize>
     ensures { result ≡ position (takes event.now) entries.now }
 {
     entries.iter().position(|entry| takes(entry, event))
 }
 
-// Adds the bits of an event to the entry at a place, and answers its number.
-pub(crate) fn merge_at(entries: &mut [Entry], at: usize, event: &Event) -> u64
-    requires { at < length entries.old }
-    ensures number { (entry : Entry) → slice_get entries.old at ≡ Some entry → result ≡ entry.number }
-    ensures entries { (entry : Entry) → slice_get entries.old at ≡ Some entry → entries.new ≡ slice_set entries.old at (merged event.now entry) }
+// Merges an event into the first entry that takes it, and answers the number of this entry.
+#[tactic(auto, unfolding(crate::specs::Queue::merged))]
+pub(crate) fn merge(entries: &mut [Entry], event: &Event) -> Option<u64>
+    ensures number { result ≡ first_number (takes event.now) entries.old }
+    ensures entries { entries.new ≡ change_first (takes event.now) (merged event.now) entries.old }
 {
+    let at = place_of(entries, event)?;
     let old = entries[at];
     entries[at] = Entry {
         number: old.number,
         body: with_bits(old.body, event.bits),
     };
-    old.number
+    Some(old.number)
 }
 
 // An event with further bits.

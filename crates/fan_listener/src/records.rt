@@ -1,5 +1,5 @@
 // The records of a read, and the events that wait for an answer once it is done: fanotify(7).
-ghost use Rattle.std.specs.Prelude.{◌≡◌, ℕ, ◌+◌, ◌^◌, ◌<◌, ◌≤◌, ◌++◌, ◌∷◌, length, take, IfOk, OnOk};
+ghost use Rattle.std.specs.Prelude.{◌≡◌, ℕ, ◌+◌, ◌*◌, ◌^◌, ◌<◌, ◌≤◌, ◌++◌, ◌∷◌, length, take, IfOk, OnOk};
 ghost use Rattle.fan_listener.specs.Records.{record_bytes, records, pendings, next_fd_after, front_within};
 
 use super::answers::Pending;
@@ -65,6 +65,7 @@ pub(crate) fn take_entries(alloc: Global, entries: &[Entry], first_fd: u32) -> R
 }
 
 // Appends one record.
+#[tactic(auto, unfolding(crate::specs::Records::record_bytes))]
 fn push_record(out: &mut Vec<u8>, mask: u64, fd: i32, pid: u32) -> Result<(), NoMemory>
     ensures { OnOk result (out.new.items ≡ out.old.items ++ record_bytes mask fd pid) }
 {
