@@ -1,2 +1,4 @@
 pub mod FirstLemmas
 pub mod ResponseLemmas
+pub mod QueueLemmas
+pub mod RecordLemmas

@@ -38,8 +38,13 @@ abbrev pub same_key : Event → Event → Bool
 same_key a b = (a.who == b.who) && same_bool a.ondir b.ondir && same_target a.target b.target
 
 -- a queued event that is no permission event takes one with its key
+abbrev pub body_takes : Event → Body → Bool
+body_takes event (Told old) = not old.perm && same_key old event
+body_takes event Lost = false
+
+-- the entry takes the event
 unfoldable pub takes : Event → Entry → Bool
-takes event entry = elim entry.body [ Told old ↦ not old.perm && same_key old event | Lost ↦ false ]
+takes event entry = body_takes event entry.body
 
 -- an event with the bits of another
 abbrev pub with_bits : ℕ → Body → Body
@@ -50,13 +55,23 @@ with_bits bits Lost = Lost
 unfoldable pub merged : Event → Entry → Entry
 merged event entry = record entry { body = with_bits event.bits entry.body }
 
+-- events were lost
+abbrev pub body_is_lost : Body → Bool
+body_is_lost (Told _) = false
+body_is_lost Lost = true
+
 -- the overflow entry
 abbrev pub is_lost : Entry → Bool
-is_lost entry = elim entry.body [ Told _ ↦ false | Lost ↦ true ]
+is_lost entry = body_is_lost entry.body
+
+-- a permission event
+abbrev pub body_asks : Body → Bool
+body_asks (Told event) = event.perm
+body_asks Lost = false
 
 -- a permission event is queued there
 abbrev pub asks : Entry → Bool
-asks entry = elim entry.body [ Told event ↦ event.perm | Lost ↦ false ]
+asks entry = body_asks entry.body
 
 -- the number of an entry
 abbrev pub number_of : Entry → ℕ

@@ -1,5 +1,5 @@
 // The queue of a group: entries, merging and the overflow entry.
-ghost use Rattle.std.specs.Prelude.{◌≡◌, ◌++◌, ◌∷◌, [], OnOk, OnErr, count_by, position};
+ghost use Rattle.std.specs.Prelude.{◌≡◌, ◌++◌, ◌∷◌, [], IfNone, OnOk, OnErr, count_by, position};
 ghost use Rattle.fan_listener.specs.Queue.{takes, asks, is_lost, first_number, merged, with_bits};
 ghost use Rattle.fan_listener.specs.First.{change_first};
 
@@ -77,6 +77,8 @@ fn place_of(entries: &[Entry], event: &Event) -> Option<usize>
 pub(crate) fn merge(entries: &mut [Entry], event: &Event) -> Option<u64>
     ensures number { result ≡ first_number (takes event.now) entries.old }
     ensures entries { entries.new ≡ change_first (takes event.now) (merged event.now) entries.old }
+    ensures none { IfNone result (entries.new ≡ entries.old) }
+    ensures waiting { count_by asks entries.new ≡ count_by asks entries.old }
 {
     let at = place_of(entries, event)?;
     let old = entries[at];

@@ -1,6 +1,7 @@
-use Rattle.std.proofs.Common.{◌≡◌, ◌∙◌, sym, ap, option_map, rules}
-use Rattle.fan_listener.specs.Queue.{takes, merged, number_of}
+use Rattle.std.proofs.Common.{◌≡◌, ◌∙◌, sym, ap, option_map, count_by}
+use Rattle.fan_listener.specs.Queue.{takes, merged, number_of, asks}
 use Rattle.fan_listener.proofs.FirstLemmas.{first_from_position, find_first, change_first_at, find_none, change_first_none}
+use Rattle.fan_listener.proofs.QueueLemmas.{waiting-merged}
 use Rattle.fan_listener.proofs.queue.merge.Goals as goal
 
 pub returns-clause-number : goal.returns-clause-number
@@ -21,3 +22,7 @@ returns-in_err-at-clause-number c =
 pub returns-in_err-at-clause-entries : goal.returns-in_err-at-clause-entries
 returns-in_err-at-clause-entries c =
     sym (change_first_none (takes c.args.event.now) (merged c.args.event.now) c.args.entries.now (find_none (takes c.args.event.now) c.args.entries.now (sym c.place_of.ensures ∙ c.in_err-at.was)))
+
+pub returns-clause-waiting : goal.returns-clause-waiting
+returns-clause-waiting c =
+    ap (count_by asks) (returns-clause-entries c) ∙ waiting-merged c.args.event.now c.args.entries.now
