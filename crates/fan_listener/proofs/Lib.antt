@@ -2,3 +2,4 @@ pub mod FirstLemmas
 pub mod ResponseLemmas
 pub mod QueueLemmas
 pub mod RecordLemmas
+pub mod Bounds

@@ -37,13 +37,17 @@ unfoldable pub waiting_under : ℕ → List Pending → Option ℕ
 waiting_under fd pending =
     if nat_lt fd (2 ^ 31) then option_map entry_of (find (is_under fd) pending) else None
 
--- the entry that waited has its answer
+-- the event that waited has its answer
+abbrev pub answered_state : ListenerState → ℕ → ℕ → Answer → ListenerState
+answered_state state fd entry answer = record state {
+    pending = without_first (is_under fd) state.pending;
+    answers = state.answers ++ (record { entry = entry; answer = answer }) ∷ [] }
+
+-- an answer to what waits under a descriptor
 abbrev pub answered : ListenerState → ℕ → Answer → Option ℕ → Result (Answered × ListenerState) WriteRefused
 answered state fd answer None = Err refusals.NotPending
 answered state fd answer (Some entry) =
-    Ok (record { entry = entry }, record state {
-        pending = without_first (is_under fd) state.pending;
-        answers = state.answers ++ (record { entry = entry; answer = answer }) ∷ [] })
+    Ok (record { entry = entry }, answered_state state fd entry answer)
 
 -- a response in form, with a descriptor and what its value stands for
 abbrev pub responded : ListenerState → ℕ → Option Answer → Result (Answered × ListenerState) WriteRefused
