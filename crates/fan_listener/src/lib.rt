@@ -7,6 +7,8 @@ mod listener;
 mod queue;
 mod records;
 mod responses;
+#[cfg(test)]
+mod tests;
 
 pub use answers::{Answer, Answered, ReadRefused, WriteRefused};
 pub use event::{Event, Target};

@@ -1,5 +1,5 @@
 // The listener of a group that gets descriptors: fanotify(7).
-ghost use Rattle.std.specs.Prelude.{◌≡◌, ◌≢◌, ℕ, ◌^◌, ◌<◌, ◌≤◌, true, false, Ok, Err, IsOk, IfOk, IfErr, OnOk, OnErr};
+ghost use Rattle.std.specs.Prelude.{◌≡◌, ◌≢◌, ℕ, ◌+◌, ◌^◌, ◌<◌, ◌≤◌, true, false, Ok, Err, IsOk, IfOk, IfErr, OnOk, OnErr};
 ghost use Rattle.fan_listener.specs.ListenerState.{new_listener};
 ghost use Rattle.fan_listener.specs.Queue.{put, put_lost, is_full, is_lost, first_number};
 ghost use Rattle.fan_listener.specs.Records.{read_of, read_front, records, front_within};
@@ -88,6 +88,20 @@ impl Listener {
         self.closed
     }
 
+    /// How many entries it made so far.
+    pub fn entries_made(&self) -> u64
+        ensures { self.now.next_entry ≤ result + 1 }
+    {
+        self.next_entry.saturating_sub(1)
+    }
+
+    /// How many descriptors it gave out so far.
+    pub fn fds_given(&self) -> u32
+        ensures { result ≡ self.now.next_fd }
+    {
+        self.next_fd
+    }
+
     /// Puts a permission event on the queue. It is never merged. Memory is found here for its answer too.
     /// `NoMemory` changes nothing.
     #[tactic(auto, unfolding(crate::specs::Queue::put, crate::specs::Queue::queued))]
@@ -95,6 +109,7 @@ impl Listener {
         requires permission { event.perm ≡ true }
         requires entries { self.old.next_entry ≤ 2 ^ 31 }
         ensures ok { IfOk result (λ outcome. (outcome, self.new) ≡ put self.old event) }
+        ensures never_merged { (entry : ℕ) → result ≢ Ok (Put.Merged entry) }
         ensures err { OnErr result (self.new ≡ self.old) }
         ensures moved { Makes 1 self.old self.new }
     {
@@ -153,6 +168,7 @@ impl Listener {
     fn lose(&mut self) -> Result<Put, NoMemory>
         requires { self.old.next_entry ≤ 2 ^ 31 }
         ensures ok { IfOk result (λ outcome. (outcome, self.new) ≡ put_lost self.old (first_number is_lost self.old.queue)) }
+        ensures never_merged { (entry : ℕ) → result ≢ Ok (Put.Merged entry) }
         ensures err { OnErr result (self.new ≡ self.old) }
         ensures moved { Makes 1 self.old self.new }
     {
