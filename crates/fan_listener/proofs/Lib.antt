@@ -1,0 +1,5 @@
+pub mod FirstLemmas
+pub mod ResponseLemmas
+pub mod QueueLemmas
+pub mod RecordLemmas
+pub mod Bounds

@@ -1,0 +1,7 @@
+use Rattle.std.proofs.Common.{◌≡◌, ◌/◌, arith}
+use Rattle.fan_listener.proofs.RecordLemmas.{front_by_count}
+use Rattle.fan_listener.proofs.records.front_len.Goals as goal
+
+pub returns-clause-front : goal.returns-clause-front
+returns-clause-front c =
+    rw c.min.ensures (front_by_count (c.args.size / 24) c.args.size c.args.entries.now (omega arith) (omega arith))

@@ -1,0 +1,236 @@
+// Short histories of listeners, with outcomes worked out from fanotify(7).
+ghost use Rattle.std.specs.Prelude.{◌≡◌, true, false};
+
+use super::*;
+use fan_bits::init_words;
+use fan_io::NoMemory;
+use std::alloc::Global;
+use std::test::Fail;
+
+// A line is a history, ' = ' and its outcomes. The words of a history are n.FLAGS.LIMIT for the listener,
+// then t, d, m and p.BITS.WHO.INODE for a told event, one on a directory, one on another mount and a
+// permission event, r.SIZE for a read, w.FD.VALUE for a response and s.FD.VALUE.LENGTH for one of another
+// length, q.ENTRY for an answer, and c for the close. A record is shown as [MASK FD PID].
+const HISTORIES: &str = "\
+n.0.2 t.32.41.4 t.32.41.5 t.32.41.4 t.32.41.5 r.72 r.24 = Q1 Q2 O3 O3 [32 0 41][32 1 41][16384 -1 0] again
+n.4.1 p.65536.50.4 p.65536.51.5 r.48 w.0.1 q.1 = Q1 O2 [65536 0 50][16384 -1 0] A1 allow
+n.4.9 t.32.41.4 t.32.41.4 t.1.41.4 t.32.42.4 r.4096 p.65536.41.4 p.65536.41.4 r.4096 = Q1 M1 M1 Q2 [33 0 41][32 1 42] Q3 Q4 [65536 2 41][65536 3 41]
+n.4.9 p.65536.50.4 q.1 w.0.1 r.24 w.0.1 w.0.1 q.1 q.1 = Q1 wait none [65536 0 50] A1 none allow wait
+n.4.9 p.65536.50.4 w.0.1 r.24 s.0.1.7 w.0.3 w.99.3 w.99.1 w.0.1 = Q1 none [65536 0 50] length value value none A1
+n.4.9 p.65536.50.4 q.1 p.65536.51.5 q.2 r.24 c q.1 q.2 r.24 w.0.1 p.65536.52.4 = Q1 wait Q2 wait [65536 0 50] ok shut shut closed closed C
+n.8.9 p.65536.50.4 q.1 r.24 w.0.1 q.1 p.65536.50.4 r.24 w.1.2 q.2 = Q1 wait [65536 0 50] A1 allow Q2 [65536 1 50] A2 deny
+n.4.9 p.65536.50.4 r.24 w.0.2 q.1 = Q1 [65536 0 50] A1 deny
+n.0.9 r.24 = again
+n.0.9 r.0 = again
+n.0.9 t.32.41.4 r.0 = Q1 small
+n.0.9 t.32.41.4 r.23 r.24 = Q1 small [32 0 41]
+n.0.9 t.32.41.4 t.32.41.5 r.47 r.24 r.24 = Q1 Q2 [32 0 41] [32 1 41] again
+n.0.9 t.32.41.4 t.32.41.5 t.32.41.6 r.71 r.71 = Q1 Q2 Q3 [32 0 41][32 1 41] [32 2 41]
+n.0.9 t.32.41.4 t.32.42.4 = Q1 Q2
+n.0.9 t.32.41.4 d.32.41.4 d.1.41.4 r.48 = Q1 Q2 M2 [32 0 41][33 1 41]
+n.0.9 t.32.41.4 m.32.41.4 m.2.41.4 r.48 = Q1 Q2 M2 [32 0 41][34 1 41]
+n.0.9 t.32.41.4 t.32.41.5 t.1.41.4 r.48 = Q1 Q2 M1 [33 0 41][32 1 41]
+n.0.9 t.32.41.4 r.24 t.32.41.4 r.24 = Q1 [32 0 41] Q2 [32 1 41]
+n.4.9 p.65536.41.4 t.32.41.4 t.1.41.4 r.96 = Q1 Q2 M2 [65536 0 41][33 1 41]
+n.4.9 t.32.41.4 p.65536.41.4 r.48 = Q1 Q2 [32 0 41][65536 1 41]
+n.0.1 t.32.41.4 t.1.41.4 r.24 t.1.41.4 r.24 = Q1 O2 [32 0 41] O2 [16384 -1 0]
+n.0.1 t.32.41.4 t.1.41.4 r.48 t.1.41.4 r.24 = Q1 O2 [32 0 41][16384 -1 0] Q3 [1 1 41]
+n.16.1 t.32.41.4 t.32.41.5 t.1.41.4 r.48 = Q1 Q2 M1 [33 0 41][32 1 41]
+n.0.2 t.32.41.4 t.1.41.4 r.24 = Q1 M1 [33 0 41]
+n.4.1 p.65536.50.4 p.65536.51.4 t.32.50.4 q.2 r.24 = Q1 O2 O2 wait [65536 0 50]
+n.4.9 c c t.32.41.4 p.65536.41.4 r.24 w.0.1 q.1 = ok ok C C closed closed shut
+n.4.9 p.65536.50.4 r.24 w.0.1 c q.1 q.1 = Q1 [65536 0 50] A1 ok allow shut
+n.4.9 p.65536.50.4 p.65536.51.5 r.48 w.1.2 w.0.1 q.1 q.2 = Q1 Q2 [65536 0 50][65536 1 51] A2 A1 allow deny
+n.4.9 q.7 = wait
+n.4.9 p.65536.50.4 r.24 w.4294967295.1 w.2147483648.1 w.0.1 = Q1 [65536 0 50] none none A1
+n.4.9 t.32.50.4 r.24 w.0.1 = Q1 [32 0 50] none
+n.4.9 t.32.50.4 p.65536.50.4 r.48 w.0.1 w.1.1 q.2 = Q1 Q2 [32 0 50][65536 1 50] none A2 allow
+n.4.1 p.65536.50.4 p.65536.51.4 r.48 p.65536.52.4 r.24 w.1.2 q.3 = Q1 O2 [65536 0 50][16384 -1 0] Q3 [65536 1 52] A3 deny
+n.4.9 p.65536.50.4 r.24 s.0.1.0 s.0.1.9 s.0.1.8 q.1 = Q1 [65536 0 50] length length A1 allow
+n.4.9 p.65536.50.4 r.24 w.0.0 w.0.4294967295 w.0.2 = Q1 [65536 0 50] value value A1
+n.4.9 c s.0.1.7 w.0.3 r.0 = ok closed closed closed
+n.4.9 p.65536.50.4 r.24 w.0.1 w.0.2 q.1 = Q1 [65536 0 50] A1 none allow
+n.4.9 p.65536.50.4 r.24 w.0.2 q.1 q.1 c q.1 = Q1 [65536 0 50] A1 deny wait ok shut
+n.0.9 t.32.41.4 r.4294967295 r.4294967295 = Q1 [32 0 41] again
+n.256.9 t.32.77.4 r.24 = Q1 [32 0 77]
+n.8.9 p.65536.41.4 p.65536.41.4 p.131072.41.4 r.48 w.1.1 q.1 q.2 q.3 = Q1 Q2 Q3 [65536 0 41][65536 1 41] A2 wait allow wait
+n.0.3 t.32.41.4 t.32.41.5 t.32.41.6 t.1.41.5 r.96 = Q1 Q2 Q3 O4 [32 0 41][32 1 41][32 2 41][16384 -1 0]
+n.0.2 t.32.41.4 t.32.41.5 t.32.41.6 r.48 t.32.41.7 t.32.41.8 r.72 = Q1 Q2 O3 [32 0 41][32 1 41] Q4 O3 [16384 -1 0][32 2 41]
+";
+
+#[test]
+fn histories_come_out_as_worked_out(rt: HostRuntime) -> Result<(), Fail> {
+    for line in HISTORIES.lines() {
+        let Some((history, wanted)) = line.split_once(" = ") else {
+            continue;
+        };
+        let outcomes = play(rt.alloc(), history)?;
+        assert_eq!(rt; outcomes.as_str(), wanted, "at {history}");
+    }
+    Ok(())
+}
+
+// The outcomes of a history.
+fn play(alloc: Global, history: &str) -> Result<String, NoMemory> {
+    let mut out = String::new(alloc);
+    let mut words = history.split(' ');
+    let word = words.next().unwrap_or("");
+    let mut parts = word.split('.');
+    let _ = parts.next();
+    let flags = number(parts.next());
+    let limit = number(parts.next());
+    let Ok(init) = init_words(flags) else {
+        return Ok(out);
+    };
+    let mut listener = Listener::new(alloc, init, limit)?;
+    for word in words {
+        if !out.is_empty() {
+            out.push(' ')?;
+        }
+        play_word(&mut listener, word, &mut out)?;
+    }
+    Ok(out)
+}
+
+// A number of a word, or 0 where there is none.
+fn number(part: Option<&str>) -> u32 {
+    match part {
+        Some(text) => text.parse::<u32>().unwrap_or(0),
+        None => 0,
+    }
+}
+
+// Plays one word and shows its outcome.
+fn play_word(listener: &mut Listener, word: &str, out: &mut String) -> Result<(), NoMemory> {
+    let mut parts = word.split('.');
+    let name = parts.next().unwrap_or("");
+    let a = number(parts.next());
+    let b = number(parts.next());
+    let c = number(parts.next());
+    if listener.entries_made() > 1000 || listener.fds_given() > 1000 {
+        return Ok(());
+    }
+    match name {
+        "t" => show_put(listener.tell(event(a, b, c))?, out),
+        "d" => show_put(listener.tell(on_directory(event(a, b, c)))?, out),
+        "m" => show_put(listener.tell(on_other_mount(event(a, b, c)))?, out),
+        "p" => show_put(listener.ask(permission(event(a, b, c)))?, out),
+        "r" => show_read(listener.read(a), out),
+        "w" => show_written(listener.write(&response(a, b)[..8]), out),
+        "s" => show_written(listener.write(&response(a, b)[..(c as usize).min(9)]), out),
+        "q" => show_answer(listener.answer_of(u64::from(a)), out),
+        _ => {
+            listener.close();
+            out.push_str("ok")?;
+            Ok(())
+        }
+    }
+}
+
+fn event(bits: u32, who: u32, inode: u32) -> Event
+    ensures { result.perm ≡ false }
+{
+    Event {
+        bits,
+        ondir: false,
+        who,
+        perm: false,
+        target: Target::Fd { mount: 3, inode },
+    }
+}
+
+fn on_directory(event: Event) -> Event
+    ensures { result.perm ≡ event.perm }
+{
+    Event {
+        ondir: true,
+        ..event
+    }
+}
+
+fn on_other_mount(event: Event) -> Event
+    ensures { result.perm ≡ event.perm }
+{
+    Event {
+        target: Target::Fd { mount: 4, inode: 4 },
+        ..event
+    }
+}
+
+fn permission(event: Event) -> Event
+    ensures { result.perm ≡ true }
+{
+    Event {
+        perm: true,
+        ..event
+    }
+}
+
+// A response with one byte more than it should have.
+fn response(fd: u32, value: u32) -> [u8; 9] {
+    let [f0, f1, f2, f3] = fd.to_le_bytes();
+    let [v0, v1, v2, v3] = value.to_le_bytes();
+    [f0, f1, f2, f3, v0, v1, v2, v3, 0]
+}
+
+fn show_put(put: Put, out: &mut String) -> Result<(), NoMemory> {
+    match put {
+        Put::Queued { entry } => write!(out, "Q{entry}")?,
+        Put::Merged { entry } => write!(out, "M{entry}")?,
+        Put::Overflow { entry } => write!(out, "O{entry}")?,
+        Put::Closed => out.push_str("C")?,
+    }
+    Ok(())
+}
+
+fn show_read(read: Result<Vec<u8>, ReadRefused>, out: &mut String) -> Result<(), NoMemory> {
+    match read {
+        Ok(bytes) => {
+            for record in bytes.chunks(24) {
+                show_record(record, out)?;
+            }
+        }
+        Err(ReadRefused::Closed) => out.push_str("closed")?,
+        Err(ReadRefused::Again) => out.push_str("again")?,
+        Err(ReadRefused::Small) => out.push_str("small")?,
+        Err(ReadRefused::NoMemory) => return Err(NoMemory),
+    }
+    Ok(())
+}
+
+// The mask, the descriptor and the process of a record whose other fields are as they should be.
+fn show_record(record: &[u8], out: &mut String) -> Result<(), NoMemory> {
+    if record.len() != 24 || record[..8] != [24, 0, 0, 0, 3, 0, 24, 0] || record[12..16] != [0; 4] {
+        out.push_str("no record")?;
+        return Ok(());
+    }
+    let mask = u32::from_le_bytes([record[8], record[9], record[10], record[11]]);
+    let fd = i32::from_le_bytes([record[16], record[17], record[18], record[19]]);
+    let pid = u32::from_le_bytes([record[20], record[21], record[22], record[23]]);
+    write!(out, "[{mask} {fd} {pid}]")?;
+    Ok(())
+}
+
+fn show_written(written: Result<Answered, WriteRefused>, out: &mut String) -> Result<(), NoMemory> {
+    match written {
+        Ok(answered) => {
+            let entry = answered.entry;
+            write!(out, "A{entry}")?;
+        }
+        Err(WriteRefused::Closed) => out.push_str("closed")?,
+        Err(WriteRefused::Length) => out.push_str("length")?,
+        Err(WriteRefused::Value) => out.push_str("value")?,
+        Err(WriteRefused::NotPending) => out.push_str("none")?,
+    }
+    Ok(())
+}
+
+fn show_answer(answer: Answer, out: &mut String) -> Result<(), NoMemory> {
+    out.push_str(match answer {
+        Answer::Waiting => "wait",
+        Answer::Allowed => "allow",
+        Answer::Denied => "deny",
+        Answer::Closed => "shut",
+    })?;
+    Ok(())
+}
