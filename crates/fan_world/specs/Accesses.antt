@@ -1,37 +1,170 @@
--- Accesses in progress: what each goes by from its begin to its end.
-use Rattle.std.specs.Prelude.{ℕ, ◌+◌, ◌==◌, List, Option, slice_get, position}
+-- Accesses in progress: what each goes by from its begin to its end, and its single step.
+use Rattle.std.specs.Prelude.{ℕ, ◌+◌, ◌-◌, ◌==◌, Bool, true, false, List, Option, Some, None, slice_get, slice_set, zero, suc, if◌then◌else◌}
+use Rattle.fan_bits.specs.Words.{occurs, report_tid}
+use Rattle.fan_listener.specs.declared.answers.Answer.{Answer}
+use Rattle.fan_listener.specs.declared.answers.Answer.TheVariants as answers
+use Rattle.fan_listener.specs.declared.event.Event.{Event}
+use Rattle.fan_listener.specs.declared.event.Target.TheVariants as targets
+use Rattle.fan_listener.specs.declared.queue.Put.{Put}
+use Rattle.fan_listener.specs.declared.queue.Put.TheVariants as puts
+use Rattle.fan_listener.specs.ListenerState.{ListenerState}
+use Rattle.fan_listener.specs.Queue.{put}
+use Rattle.fan_listener.specs.Responses.{answer_of}
 use Rattle.fan_world.specs.declared.access.Opening.{Opening}
+use Rattle.fan_world.specs.declared.access.WaitingFor.{WaitingFor}
 use Rattle.fan_world.specs.declared.marks.Mark.{Mark}
-use Rattle.fan_world.specs.declared.queue.Event.{Event}
-use Rattle.fan_world.specs.Marks.{told_groups}
+use Rattle.fan_world.specs.declared.step.StepOutcome.{StepOutcome}
+use Rattle.fan_world.specs.declared.step.StepOutcome.TheVariants as outcomes
+use Rattle.fan_world.specs.Marks.{asked_groups, told_groups}
 
--- an access: its number, the object that it opens, who opens it, the marks as they stood at its begin,
--- and how many groups were told so far
+-- an access: its number, the object that it opens, who opens it, and the marks as they stood at its begin;
+-- how many of its asks are settled, the ask that waits for an answer, and how many groups were told
 pub record AccessState : Type 0 where
   pub number : ℕ
   pub object : ℕ
   pub pid : ℕ
   pub tid : ℕ
   pub marks : List Mark
+  pub settled : ℕ
+  pub waiting : Option WaitingFor
   pub told : ℕ
 
 -- an access at its begin
 abbrev pub beginning : Opening → ℕ → List Mark → AccessState
-beginning opening object marks =
-    record { number = opening.number; object = object; pid = opening.pid; tid = opening.tid; marks = marks; told = 0 }
+beginning opening object marks = record {
+  number = opening.number;
+  object = object;
+  pid = opening.pid;
+  tid = opening.tid;
+  marks = marks;
+  settled = 0;
+  waiting = None;
+  told = 0;
+}
 
--- the event that an access tells
-abbrev pub event_of : AccessState → Event
-event_of access = record { object = access.object; pid = access.pid }
+-- the groups that the access asks, and those that it tells, in order
+abbrev pub asks : AccessState → List ℕ
+asks access = asked_groups access.marks access.object
 
--- the group that the access tells next, if any is left
-abbrev pub next_told : AccessState → Option ℕ
-next_told access = slice_get (told_groups access.marks access.object) access.told
+abbrev pub tells : AccessState → List ℕ
+tells access = told_groups access.marks access.object
 
--- the access after one more group was told
+-- the process that a group is told of, or the thread with FAN_REPORT_TID
+abbrev pub who_of : ℕ → AccessState → ℕ
+who_of flags access = if occurs flags report_tid then access.tid else access.pid
+
+-- what a group is asked: FAN_OPEN_PERM on the object, through the mount at the root
+abbrev pub asked_event : ℕ → AccessState → Event
+asked_event flags access =
+    record { bits = 0x10000; ondir = false; who = who_of flags access; perm = true; target = targets.Fd 3 access.object }
+
+-- what a group is told: FAN_OPEN
+abbrev pub told_event : ℕ → AccessState → Event
+told_event flags access =
+    record { bits = 0x20; ondir = false; who = who_of flags access; perm = false; target = targets.Fd 3 access.object }
+
+-- the listener of a group, closed or not; groups are numbered from 1
+abbrev pub listener_at : List ListenerState → ℕ → Option ListenerState
+listener_at listeners zero = None
+listener_at listeners (suc place) = slice_get listeners place
+
+-- the listeners with that of a group changed
+abbrev pub with_listener : List ListenerState → ℕ → ListenerState → List ListenerState
+with_listener listeners group listener = slice_set listeners (group - 1) listener
+
+-- an event is put on the queue of a group, by its flags; a group that isn't there counts as closed
+abbrev pub put_at : Option ListenerState → List ListenerState → ℕ → (ℕ → Event) → Put × List ListenerState
+put_at None listeners group event = (puts.Closed, listeners)
+put_at (Some listener) listeners group event =
+    let r = put listener (event listener.flags) in (r.0, with_listener listeners group r.1)
+
+unfoldable pub put_to : List ListenerState → ℕ → (ℕ → Event) → Put × List ListenerState
+put_to listeners group event = put_at (listener_at listeners group) listeners group event
+
+-- the answer of a group for one of its entries
+abbrev pub answer_at : Option ListenerState → List ListenerState → ℕ → ℕ → Answer × List ListenerState
+answer_at None listeners group entry = (answers.Closed, listeners)
+answer_at (Some listener) listeners group entry =
+    let r = answer_of listener entry in (r.0, with_listener listeners group r.1)
+
+unfoldable pub answer_from : List ListenerState → ℕ → ℕ → Answer × List ListenerState
+answer_from listeners group entry = answer_at (listener_at listeners group) listeners group entry
+
+-- the access goes on: one ask more is settled
+abbrev pub settled_one : AccessState → AccessState
+settled_one access = record access { settled = access.settled + 1; waiting = None }
+
+-- an ask, by what became of its event: it waits, or is settled where the event was dropped
+abbrev pub after_ask : ℕ → Put → AccessState → StepOutcome × AccessState
+after_ask group (puts.Queued entry) access =
+    (outcomes.Asked group, record access { waiting = Some (record { group = group; entry = entry }) })
+after_ask group (puts.Merged entry) access = (outcomes.Full group, settled_one access)
+after_ask group (puts.Overflow entry) access = (outcomes.Full group, settled_one access)
+after_ask group puts.Closed access = (outcomes.Closed group, settled_one access)
+
+-- a look at the answer of an ask that waits; an access that is denied is finished
+abbrev pub after_answer : ℕ → Answer → AccessState → StepOutcome × Option AccessState
+after_answer group answers.Waiting access = (outcomes.Blocked group, Some access)
+after_answer group answers.Allowed access = (outcomes.Allowed group, Some (settled_one access))
+after_answer group answers.Denied access = (outcomes.Denied group, None)
+after_answer group answers.Closed access = (outcomes.Closed group, Some (settled_one access))
+
+-- the access goes on: one group more was told
 abbrev pub told_one : AccessState → AccessState
 told_one access = record access { told = access.told + 1 }
 
--- the place of an open access by its number
-abbrev pub place_of : List AccessState → ℕ → Option ℕ
-place_of accesses number = position (λ access. access.number == number) accesses
+-- what became of an event that was told
+abbrev pub after_tell : ℕ → Put → StepOutcome
+after_tell group (puts.Queued entry) = outcomes.Queued group
+after_tell group (puts.Merged entry) = outcomes.Merged group
+after_tell group (puts.Overflow entry) = outcomes.Overflow group
+after_tell group puts.Closed = outcomes.Closed group
+
+-- a look at the answer that the access waits for
+unfoldable pub looked : WaitingFor → List ListenerState → AccessState → StepOutcome × List ListenerState × Option AccessState
+looked asked listeners access =
+    let r = answer_from listeners asked.group asked.entry in
+    let after = after_answer asked.group r.0 access in
+    (after.0, r.1, after.1)
+
+-- the next group is asked
+unfoldable pub asked_next : ℕ → List ListenerState → AccessState → StepOutcome × List ListenerState × Option AccessState
+asked_next group listeners access =
+    let r = put_to listeners group (λ flags. asked_event flags access) in
+    let after = after_ask group r.0 access in
+    (after.0, r.1, Some after.1)
+
+-- the next group is told
+unfoldable pub told_next : ℕ → List ListenerState → AccessState → StepOutcome × List ListenerState × Option AccessState
+told_next group listeners access =
+    let r = put_to listeners group (λ flags. told_event flags access) in
+    (after_tell group r.0, r.1, Some (told_one access))
+
+-- one step: a look at the answer that is waited for; else the next ask; else the next tell; else the end
+abbrev pub step_by : Option WaitingFor → Option ℕ → Option ℕ → List ListenerState → AccessState → StepOutcome × List ListenerState × Option AccessState
+step_by (Some asked) ask tell listeners access = looked asked listeners access
+step_by None (Some group) tell listeners access = asked_next group listeners access
+step_by None None (Some group) listeners access = told_next group listeners access
+step_by None None None listeners access = (outcomes.Done, listeners, None)
+
+-- the single step of an access: its outcome, the listeners, and the access where it isn't finished
+unfoldable pub access_step : List ListenerState → AccessState → StepOutcome × List ListenerState × Option AccessState
+access_step listeners access =
+    step_by access.waiting (slice_get (asks access) access.settled) (slice_get (tells access) access.told) listeners access
+
+-- an access has this number
+abbrev pub has_number : ℕ → AccessState → Bool
+has_number number access = access.number == number
+
+-- an access stays open after an outcome, or is finished by it
+abbrev pub kept_access : StepOutcome → AccessState → Option AccessState
+kept_access (outcomes.Asked group) access = Some access
+kept_access (outcomes.Blocked group) access = Some access
+kept_access (outcomes.Allowed group) access = Some access
+kept_access (outcomes.Denied group) access = None
+kept_access (outcomes.Closed group) access = Some access
+kept_access (outcomes.Full group) access = Some access
+kept_access (outcomes.Queued group) access = Some access
+kept_access (outcomes.Merged group) access = Some access
+kept_access (outcomes.Overflow group) access = Some access
+kept_access outcomes.Done access = None

@@ -1,12 +1,13 @@
 -- What bounds the numbers of the machine: each step adds one at most.
 use Rattle.std.specs.Prelude.{ℕ, ◌+◌, ◌≤◌, List, All, length}
-use Rattle.fan_world.specs.Queue.{QueueState}
+use Rattle.fan_listener.specs.ListenerState.{ListenerState}
 
--- a queue has handed out, or will, no more descriptors than so many
-abbrev pub IsBounded : ℕ → QueueState → Type 0
-IsBounded steps queue = queue.next_fd + length queue.events ≤ steps
+-- a listener made no more entries, and has given out or will no more descriptors, than so many
+pub record IsBounded (steps : ℕ) (listener : ListenerState) : Type 0 where
+  pub entries : listener.next_entry ≤ steps + 1
+  pub descriptors : listener.next_fd + length listener.queue ≤ steps
 
--- there are no more groups than so many, and none has handed out, or will, more descriptors
-pub record AreBounded (steps : ℕ) (queues : List QueueState) : Type 0 where
-  pub count : length queues ≤ steps
-  pub each : All (IsBounded steps) queues
+-- there are no more groups than so many, and each is bounded
+pub record AreBounded (steps : ℕ) (listeners : List ListenerState) : Type 0 where
+  pub count : length listeners ≤ steps
+  pub each : All (IsBounded steps) listeners

@@ -1,5 +1,5 @@
 -- `run`: the single step of an access, repeated until one ends it.
-use Rattle.std.specs.Prelude.{ℕ, zero, suc, List, [], ◌∷◌, Bool, true, false, if◌then◌else◌}
+use Rattle.std.specs.Prelude.{◌≡◌, ◌⊎◌, ℕ, zero, suc, MatchBool, List, [], ◌∷◌, Bool, true, false, if◌then◌else◌}
 use Rattle.fan_bits.specs.declared.errno.Errno.TheVariants as errno
 use Rattle.fan_world.specs.declared.step.Step.{Step}
 use Rattle.fan_world.specs.declared.step.Step.TheVariants as steps
@@ -9,10 +9,17 @@ use Rattle.fan_world.specs.declared.step.StepOutcome.{StepOutcome}
 use Rattle.fan_world.specs.declared.step.StepOutcome.TheVariants as outcomes
 use Rattle.fan_world.specs.World.{WorldState, next}
 
--- an outcome after which the access is finished
+-- an outcome that ends a run: the access waits, or is finished
 abbrev pub is_last : StepOutcome → Bool
-is_last (outcomes.Queued group) = false
+is_last (outcomes.Asked group) = false
+is_last (outcomes.Blocked group) = true
+is_last (outcomes.Allowed group) = false
+is_last (outcomes.Denied group) = true
 is_last (outcomes.Closed group) = false
+is_last (outcomes.Full group) = false
+is_last (outcomes.Queued group) = false
+is_last (outcomes.Merged group) = false
+is_last (outcomes.Overflow group) = false
 is_last outcomes.Done = true
 
 -- an answer that ends a run: the access is finished, or was not open
@@ -36,16 +43,19 @@ ran (suc count) world access =
 unfoldable pub most_answers : ℕ
 most_answers = 385
 
--- the answers of an open access up to its last: groups that were told or are closed, and then `done`
-pub data RunsToDone : List Reply → Type 0 where
-  finished : RunsToDone (replies.Out outcomes.Done ∷ [])
-  queued : {group : ℕ} {more : List Reply} → RunsToDone more → RunsToDone (replies.Out (outcomes.Queued group) ∷ more)
-  closed : {group : ℕ} {more : List Reply} → RunsToDone more → RunsToDone (replies.Out (outcomes.Closed group) ∷ more)
+-- the answers of an open access up to one that ends the run
+abbrev pub EndsOnce : List Reply → Type 0
+EndsOnce [] = ⊥
+EndsOnce (replies.Done ∷ more) = ⊥
+EndsOnce (replies.Inode object ∷ more) = ⊥
+EndsOnce (replies.Group group ∷ more) = ⊥
+EndsOnce (replies.Bytes bytes ∷ more) = ⊥
+EndsOnce (replies.Refused refusal ∷ more) = ⊥
+EndsOnce (replies.Out outcome ∷ more) = MatchBool (is_last outcome) (more ≡ []) (EndsOnce more)
 
--- the answers of a whole run: those of an open access up to its last, or ESRCH alone where none is open
-pub data IsWholeRun : List Reply → Type 0 where
-  opened : {answers : List Reply} → RunsToDone answers → IsWholeRun answers
-  not_open : IsWholeRun (replies.Refused errno.Esrch ∷ [])
+-- the answers of a whole run: up to `blocked`, `denied` or `done`, or ESRCH alone where no such access is open
+abbrev pub IsWholeRun : List Reply → Type 0
+IsWholeRun answers = EndsOnce answers ⊎ (answers ≡ replies.Refused errno.Esrch ∷ [])
 
 -- the state after a list of steps
 abbrev pub after_steps : WorldState → List Step → WorldState

@@ -1,25 +1,18 @@
 // The open accesses: how one begins, and its single steps.
-ghost use Rattle.std.specs.Prelude.{◌≡◌, ◌+◌, ◌-◌, ◌<◌, ◌≤◌, ◌^◌, length, slice_get, slice_set, remove, [], ◌∷◌, ◌++◌, Some, None, IfOk, IfSome, IfNone, OnOk, OnErr};
-ghost use Rattle.fan_world.specs.World.{begun, advanced, stepped_at, told};
-ghost use Rattle.fan_world.specs.Accesses.{place_of};
+ghost use Rattle.std.specs.Prelude.{◌≡◌, ◌<◌, ◌^◌, length, position, Some, None, IfOk, IfSome, OnErr, if◌then◌else◌};
+ghost use Rattle.fan_world.specs.Accesses.{AccessState, has_number, kept_access};
+ghost use Rattle.fan_world.specs.Bounds.{AreBounded};
+ghost use Rattle.fan_world.specs.World.{begun, advanced};
 
 use super::access::{Access, Opening};
 use super::files::{File, find_object};
-use super::groups::place_of_group;
+use super::stepping::step;
 use super::marks::Mark;
-use super::queue::{Event, Queue};
 use super::step::{Reply, StepOutcome};
 use fan_bits::Errno;
 use fan_io::NoMemory;
+use fan_listener::Listener;
 use std::alloc::Global;
-
-// The place of an open access.
-fn place_of_access(accesses: &[Access], number: u32) -> Option<usize>
-    ensures found { result ≡ place_of accesses.now number }
-    ensures within { IfSome result (λ place. place < length accesses.now) }
-{
-    accesses.iter().position(|access| access.number() == number)
-}
 
 /// Begins an access of the file at a path.
 #[tactic(auto, unfolding(crate::specs::World::begun))]
@@ -50,65 +43,44 @@ pub(crate) fn begin(
     }
 }
 
+// The place of an open access.
+fn place_of_access(accesses: &[Access], number: u32) -> Option<usize>
+    ensures found { result ≡ position (has_number number) accesses.now }
+    ensures within { IfSome result (λ place. place < length accesses.now) }
+{
+    accesses.iter().position(|access| access.number() == number)
+}
+
 /// Does the next single step of an access.
 #[tactic(auto, unfolding(crate::specs::World::advanced))]
 pub(crate) fn advance(
-    queues: &mut Vec<Queue>,
+    listeners: &mut Vec<Listener>,
     accesses: &mut Vec<Access>,
     number: u32,
 ) -> Result<Reply, NoMemory>
-    ensures ok { IfOk result (λ reply. (reply, queues.new.items, accesses.new.items)
-        ≡ advanced queues.old.items accesses.old.items number) }
-    ensures queues { OnErr result (queues.new.items ≡ queues.old.items) }
+    requires { AreBounded (2 ^ 30) listeners.old.items }
+    ensures ok { IfOk result (λ reply. (reply, listeners.new.items, accesses.new.items)
+        ≡ advanced listeners.old.items accesses.old.items number) }
+    ensures listeners { OnErr result (listeners.new.items ≡ listeners.old.items) }
     ensures accesses { OnErr result (accesses.new.items ≡ accesses.old.items) }
 {
-    match place_of_access(accesses, number) {
-        None => Ok(Reply::Refused(Errno::Esrch)),
-        Some(place) => step_at(queues, accesses, place),
+    let Some(place) = place_of_access(accesses, number) else {
+        return Ok(Reply::Refused(Errno::Esrch));
+    };
+    let access = &mut accesses[place];
+    let outcome = step(listeners, access)?;
+    if is_finished(outcome) {
+        let _ = accesses.remove(place);
     }
+    Ok(Reply::Out(outcome))
 }
 
-// The single step of the access at a place.
-fn step_at(
-    queues: &mut Vec<Queue>,
-    accesses: &mut Vec<Access>,
-    place: usize,
-) -> Result<Reply, NoMemory>
-    requires { place < length accesses.old.items }
-    ensures ok { IfOk result (λ reply. (reply, queues.new.items, accesses.new.items)
-        ≡ stepped_at place (slice_get accesses.old.items place) queues.old.items accesses.old.items) }
-    ensures queues { OnErr result (queues.new.items ≡ queues.old.items) }
-    ensures accesses { OnErr result (accesses.new.items ≡ accesses.old.items) }
+// Whether an access is finished after this outcome.
+fn is_finished(outcome: StepOutcome) -> bool
+    ensures { (access : AccessState) → kept_access outcome access ≡ (if result then None else Some access) }
 {
-    let access = &accesses[place];
-    let event = access.event();
-    match access.next_told() {
-        None => {
-            let _ = accesses.remove(place);
-            Ok(Reply::Out(StepOutcome::Done))
-        }
-        Some(group) => {
-            let outcome = tell(queues, group, event)?;
-            let access = &mut accesses[place];
-            access.tell_one();
-            Ok(Reply::Out(outcome))
-        }
-    }
-}
-
-// Tells a group of an event.
-#[tactic(auto, unfolding(crate::specs::World::told))]
-fn tell(queues: &mut Vec<Queue>, group: u32, event: Event) -> Result<StepOutcome, NoMemory>
-    ensures ok { IfOk result (λ outcome. (outcome, queues.new.items)
-        ≡ told queues.old.items group event) }
-    ensures err { OnErr result (queues.new.items ≡ queues.old.items) }
-{
-    match place_of_group(queues, group) {
-        None => Ok(StepOutcome::Closed(group)),
-        Some(place) => {
-            let queue = &mut queues[place];
-            queue.put(event)?;
-            Ok(StepOutcome::Queued(group))
-        }
+    match outcome {
+        StepOutcome::Denied(_) | StepOutcome::Done => true,
+        _ => false,
     }
 }

@@ -1,112 +1,171 @@
-// The groups: their queues, from group 1 on, and the steps that name one.
-ghost use Rattle.std.specs.Prelude.{◌≡◌, ◌+◌, ◌-◌, ◌<◌, ◌≤◌, ◌^◌, ◌↔◌, length, slice_get, slice_set, [], ◌∷◌, ◌++◌, Some, None, IfOk, IfErr, IfSome, IfNone, OnOk, OnErr, Ok, Err};
-ghost use Rattle.fan_world.specs.World.{queue_at, grouped, marked, read_from, read_answer};
-ghost use Rattle.fan_world.specs.Queue.{read_of};
+// The groups: their listeners, from group 1 on, and the steps that name one.
+ghost use Rattle.std.specs.Prelude.{◌≡◌, ◌≢◌, ◌+◌, ◌-◌, ◌<◌, ◌≤◌, ◌^◌, length, slice_get, Some, None, IfOk, IfErr, IfSome, IfNone, OnOk, OnErr, count_by};
+ghost use Rattle.fan_listener.specs.Records.{read_of};
+ghost use Rattle.fan_listener.specs.Responses.{written};
+ghost use Rattle.fan_world.specs.Accesses.{listener_at, with_listener};
 ghost use Rattle.fan_world.specs.Bounds.{AreBounded};
+ghost use Rattle.fan_world.specs.World.{is_open, open_listener, if_open, grouped, read_from, read_answer, written_to, write_answer, closed_group, closed_at, read_errno, write_errno};
 
-use super::files::{File, find_object};
-use super::marks::{Mark, add_mark};
-use super::queue::Queue;
+use super::marks::{Mark, drop_group};
 use super::step::Reply;
-use fan_bits::Errno;
+use fan_bits::{Errno, init_words};
 use fan_io::{Items, NoMemory};
+use fan_listener::{Listener, ReadRefused, WriteRefused};
 use std::alloc::Global;
 
-/// The place of a group's queue in the list.
-pub(crate) fn place_of_group(queues: &[Queue], group: u32) -> Option<usize>
-    ensures found { IfSome result (λ place. queue_at queues.now group
-        ≡ slice_get queues.now place) }
+/// How many groups may be open.
+const MOST_GROUPS: usize = 128;
+
+/// How many entries the queue of a group has at most.
+const QUEUE_LIMIT: u32 = 16_384;
+
+/// The place of a group's listener in the list.
+pub(crate) fn place_of_group(listeners: &[Listener], group: u32) -> Option<usize>
+    ensures found { IfSome result (λ place. listener_at listeners.now group ≡ slice_get listeners.now place) }
     ensures place { IfSome result (λ place. place ≡ group - 1) }
-    ensures within { IfSome result (λ place. place < length queues.now) }
-    ensures none { IfNone result (queue_at queues.now group ≡ None) }
+    ensures within { IfSome result (λ place. place < length listeners.now) }
+    ensures none { IfNone result (listener_at listeners.now group ≡ None) }
 {
     if group == 0 {
         return None;
     }
     let place = group as usize - 1;
-    if place >= queues.len() {
+    if place >= listeners.len() {
         return None;
     }
     Some(place)
 }
 
-/// How many groups may be open.
-const MOST_GROUPS: usize = 128;
-
-/// Makes a group, whose number is the count of groups then. EMFILE where 128 are open.
-#[tactic(auto, unfolding(crate::specs::World::grouped))]
-pub(crate) fn make_group(alloc: Global, queues: &mut Vec<Queue>) -> Result<Reply, NoMemory>
-    ensures ok { IfOk result (λ reply. (reply, queues.new.items) ≡ grouped queues.old.items) }
-    ensures err { OnErr result (queues.new.items ≡ queues.old.items) }
+/// The place of a group's listener, where the group is open.
+pub(crate) fn place_of_open_group(listeners: &[Listener], group: u32) -> Option<usize>
+    ensures found { IfSome result (λ place. open_listener listeners.now group ≡ slice_get listeners.now place) }
+    ensures place { IfSome result (λ place. place ≡ group - 1) }
+    ensures within { IfSome result (λ place. place < length listeners.now) }
+    ensures none { IfNone result (open_listener listeners.now group ≡ None) }
 {
-    if queues.len() >= MOST_GROUPS {
-        return Ok(Reply::Refused(Errno::Emfile));
+    let place = place_of_group(listeners, group)?;
+    if listeners[place].is_closed() {
+        return None;
     }
-    queues.push(Queue::new(alloc))?;
-    Ok(Reply::Group(queues.len() as u32))
+    Some(place)
 }
 
-/// Adds a mark of a group on the file at a path.
-#[tactic(auto, unfolding(crate::specs::World::marked))]
-pub(crate) fn mark_file(
-    alloc: Global,
-    queues: &[Queue],
-    files: &[File],
-    marks: &mut Vec<Mark>,
-    group: u32,
-    path: &[u8],
-) -> Result<Reply, NoMemory>
-    ensures ok { IfOk result (λ reply. (reply, marks.new.items)
-        ≡ marked queues.now files.now marks.old.items group path.now) }
-    ensures err { OnErr result (marks.new.items ≡ marks.old.items) }
+// How many groups are open.
+fn count_open(listeners: &[Listener]) -> usize
+    ensures { result ≡ count_by is_open listeners.now }
 {
-    if place_of_group(queues, group).is_none() {
-        return Ok(Reply::Refused(Errno::Ebadf));
+    listeners
+        .iter()
+        .filter(|listener| !listener.is_closed())
+        .count()
+}
+
+/// Makes a group, whose number is the count of groups then. EINVAL for its flags, EMFILE where 128 are open.
+#[tactic(auto, unfolding(crate::specs::World::grouped))]
+pub(crate) fn make_group(
+    alloc: Global,
+    listeners: &mut Vec<Listener>,
+    flags: u32,
+) -> Result<Reply, NoMemory>
+    requires { length listeners.old.items < 2 ^ 30 }
+    ensures ok { IfOk result (λ reply. (reply, listeners.new.items) ≡ grouped listeners.old.items flags) }
+    ensures err { OnErr result (listeners.new.items ≡ listeners.old.items) }
+{
+    let Ok(init) = init_words(flags) else {
+        return Ok(Reply::Refused(Errno::Einval));
+    };
+    if init.has_handles() {
+        return Ok(Reply::Refused(Errno::Einval));
     }
-    match find_object(files, path) {
-        None => Ok(Reply::Refused(Errno::Enoent)),
-        Some(object) => {
-            add_mark(alloc, marks, Mark { group, object })?;
-            Ok(Reply::Done)
-        }
+    if count_open(listeners) >= MOST_GROUPS {
+        return Ok(Reply::Refused(Errno::Emfile));
     }
+    listeners.push(Listener::new(alloc, init, QUEUE_LIMIT)?)?;
+    Ok(Reply::Group(listeners.len() as u32))
 }
 
 /// Reads the queue of a group.
 #[tactic(auto, unfolding(crate::specs::World::read_from))]
 pub(crate) fn read_group(
-    alloc: Global,
-    queues: &mut Vec<Queue>,
+    listeners: &mut Vec<Listener>,
     group: u32,
     size: u32,
 ) -> Result<Reply, NoMemory>
-    requires { AreBounded (2 ^ 30) queues.old.items }
-    ensures ok { IfOk result (λ reply. (reply, queues.new.items)
-        ≡ read_from queues.old.items group size) }
-    ensures err { OnErr result (queues.new.items ≡ queues.old.items) }
+    requires { AreBounded (2 ^ 30 - 1) listeners.old.items }
+    ensures ok { IfOk result (λ reply. (reply, listeners.new.items) ≡ read_from listeners.old.items group size) }
+    ensures err { OnErr result (listeners.new.items ≡ listeners.old.items) }
 {
-    match place_of_group(queues, group) {
+    match place_of_group(listeners, group) {
         None => Ok(Reply::Refused(Errno::Ebadf)),
-        Some(place) => read_at(alloc, queues, place, size),
+        Some(place) => read_at(listeners, place, size),
     }
 }
 
 // Reads the queue at a place.
-fn read_at(
-    alloc: Global,
-    queues: &mut Vec<Queue>,
-    place: usize,
-    size: u32,
-) -> Result<Reply, NoMemory>
-    requires within { place < length queues.old.items }
-    requires bounded { AreBounded (2 ^ 30) queues.old.items }
-    ensures ok { IfOk result (λ reply. IfSome (slice_get queues.old.items place) (λ queue.
-        (reply, queues.new.items) ≡ read_answer (read_of queue size) queues.old.items (place + 1))) }
-    ensures err { OnErr result (queues.new.items ≡ queues.old.items) }
+fn read_at(listeners: &mut Vec<Listener>, place: usize, size: u32) -> Result<Reply, NoMemory>
+    requires within { place < length listeners.old.items }
+    requires bounded { AreBounded (2 ^ 30 - 1) listeners.old.items }
+    ensures ok { IfOk result (λ reply. IfSome (slice_get listeners.old.items place) (λ listener.
+        (reply, listeners.new.items) ≡ read_answer (read_of listener size) listeners.old.items (place + 1))) }
+    ensures err { OnErr result (listeners.new.items ≡ listeners.old.items) }
 {
-    let queue = &mut queues[place];
-    match queue.read(alloc, size)? {
+    let listener = &mut listeners[place];
+    match listener.read(size) {
         Ok(bytes) => Ok(Reply::Bytes(Items::from_vec(bytes))),
-        Err(refusal) => Ok(Reply::Refused(refusal)),
+        Err(ReadRefused::NoMemory) => Err(NoMemory),
+        Err(ReadRefused::Closed) => Ok(Reply::Refused(Errno::Ebadf)),
+        Err(ReadRefused::Again) => Ok(Reply::Refused(Errno::Eagain)),
+        Err(ReadRefused::Small) => Ok(Reply::Refused(Errno::Einval)),
+    }
+}
+
+/// Takes a response of a group's listener. Takes no memory.
+#[tactic(auto, unfolding(crate::specs::World::written_to))]
+pub(crate) fn write_group(listeners: &mut Vec<Listener>, group: u32, bytes: &[u8]) -> Reply
+    ensures { (result, listeners.new.items) ≡ written_to listeners.old.items group bytes.now }
+{
+    match place_of_group(listeners, group) {
+        None => Reply::Refused(Errno::Ebadf),
+        Some(place) => write_at(listeners, place, bytes),
+    }
+}
+
+// Takes a response of the listener at a place.
+fn write_at(listeners: &mut Vec<Listener>, place: usize, bytes: &[u8]) -> Reply
+    requires { place < length listeners.old.items }
+    ensures { IfSome (slice_get listeners.old.items place) (λ listener.
+        (result, listeners.new.items) ≡ write_answer (written listener bytes.now) listeners.old.items (place + 1)) }
+{
+    let listener = &mut listeners[place];
+    match listener.write(bytes) {
+        Ok(_) => Reply::Done,
+        Err(refusal) => Reply::Refused(errno_of(refusal)),
+    }
+}
+
+// Why a response is refused.
+fn errno_of(refusal: WriteRefused) -> Errno
+    ensures { result ≡ write_errno refusal }
+{
+    match refusal {
+        WriteRefused::Closed => Errno::Ebadf,
+        WriteRefused::Length | WriteRefused::Value => Errno::Einval,
+        WriteRefused::NotPending => Errno::Enoent,
+    }
+}
+
+/// Closes a group and drops its marks. Takes no memory.
+#[tactic(auto, unfolding(crate::specs::World::closed_group))]
+pub(crate) fn close_group(listeners: &mut Vec<Listener>, marks: &mut Vec<Mark>, group: u32) -> Reply
+    ensures { (result, listeners.new.items, marks.new.items) ≡ closed_group listeners.old.items marks.old.items group }
+{
+    match place_of_open_group(listeners, group) {
+        None => Reply::Refused(Errno::Ebadf),
+        Some(place) => {
+            let listener = &mut listeners[place];
+            listener.close();
+            drop_group(marks, group);
+            Reply::Done
+        }
     }
 }

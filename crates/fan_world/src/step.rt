@@ -1,4 +1,5 @@
 // One step of the machine, and its reply.
+use super::marks::MarkMask;
 use fan_bits::Errno;
 use fan_io::Items;
 
@@ -9,11 +10,14 @@ pub enum Step {
     MkFile {
         path: Items<u8>,
     },
-    /// Makes a group: fanotify_init(2) with flags 0.
-    Init,
-    /// Adds the bit FAN_OPEN to the mark of a group on a file: fanotify_mark(2).
+    /// Makes a group: fanotify_init(2).
+    Init {
+        flags: u32,
+    },
+    /// Adds bits to the mark of a group on a file: fanotify_mark(2) with FAN_MARK_ADD.
     Mark {
         group: u32,
+        mask: MarkMask,
         path: Items<u8>,
     },
     /// Begins the opening of a file by a process and a thread of it.
@@ -31,6 +35,15 @@ pub enum Step {
     Read {
         group: u32,
         size: u32,
+    },
+    /// Writes a response of a group's listener: fanotify(7).
+    Write {
+        group: u32,
+        bytes: Items<u8>,
+    },
+    /// Closes a group: its queue is freed, and its marks go.
+    Close {
+        group: u32,
     },
 }
 
@@ -51,13 +64,27 @@ pub enum Reply {
     Out(StepOutcome),
 }
 
-/// What one single step of an access did.
+/// What one single step of an access did; each but the last names the group.
 #[derive(Clone, Copy, Debug, PartialEq, Eq)]
 pub enum StepOutcome {
+    /// The group is asked: a permission event is queued, and the access waits for its answer.
+    Asked(u32),
+    /// The access still waits for the answer of the group.
+    Blocked(u32),
+    /// The group allowed the access, which goes on.
+    Allowed(u32),
+    /// The group denied the access, which is finished.
+    Denied(u32),
+    /// The group is closed and gave no answer, and the access goes on.
+    Closed(u32),
+    /// The permission event was dropped at the limit of the group's queue, and the access goes on.
+    Full(u32),
     /// The group was told, and the event is queued.
     Queued(u32),
-    /// The group is not open, and the access goes on.
-    Closed(u32),
+    /// The group was told, and a queued event took the bits.
+    Merged(u32),
+    /// The event was dropped at the limit of the group's queue; the overflow event stands for it.
+    Overflow(u32),
     /// The access is finished.
     Done,
 }

@@ -1,17 +1,16 @@
 // The machine itself: its state, and one step of it.
 ghost use Rattle.std.specs.Prelude.{◌≡◌, ◌+◌, ◌<◌, ◌≤◌, ◌^◌, length, IfOk, OnOk, OnErr, IfSome};
-ghost use Rattle.fan_world.specs.World.{made, marked, begun, advanced, read_from, next, opening_world, queue_at};
-ghost use Rattle.fan_world.specs.Accesses.{place_of};
-ghost use Rattle.fan_world.specs.Bounds.{AreBounded};
+ghost use Rattle.fan_world.specs.World.{next, opening_world};
 
 use super::access::{Access, Opening};
 use super::accesses::{advance, begin};
 use super::files::{File, make_file};
-use super::groups::{make_group, mark_file, read_group};
+use super::groups::{close_group, make_group, read_group, write_group};
+use super::marking::mark_file;
 use super::marks::Mark;
-use super::queue::Queue;
 use super::step::{Reply, Step};
 use fan_io::NoMemory;
+use fan_listener::Listener;
 use std::alloc::Global;
 use std::marker::Model;
 
@@ -21,7 +20,7 @@ pub struct World {
     alloc: Global,
     files: Vec<File>,
     next_object: u32,
-    queues: Vec<Queue>,
+    listeners: Vec<Listener>,
     marks: Vec<Mark>,
     accesses: Vec<Access>,
     last_access: u32,
@@ -39,7 +38,7 @@ impl Model for World {
       state = record {
         files = w.files.items;
         next_object = w.next_object;
-        queues = w.queues.items;
+        listeners = w.listeners.items;
         marks = w.marks.items;
         accesses = w.accesses.items;
         last_access = w.last_access;
@@ -48,7 +47,7 @@ impl Model for World {
     } };
 
     ghost invariant = { λ w. record {
-      queues : AreBounded w.steps w.queues.items;
+      listeners : AreBounded w.steps w.listeners.items;
       objects : w.next_object ≤ 65536;
     } };
 }
@@ -62,7 +61,7 @@ impl World {
             alloc,
             files: Vec::new(alloc),
             next_object: 4,
-            queues: Vec::new(alloc),
+            listeners: Vec::new(alloc),
             marks: Vec::new(alloc),
             accesses: Vec::new(alloc),
             last_access: 0,
@@ -92,13 +91,14 @@ impl World {
                 &mut self.next_object,
                 path.as_slice(),
             )?,
-            Step::Init => make_group(self.alloc, &mut self.queues)?,
-            Step::Mark { group, path } => mark_file(
+            Step::Init { flags } => make_group(self.alloc, &mut self.listeners, *flags)?,
+            Step::Mark { group, mask, path } => mark_file(
                 self.alloc,
-                &self.queues,
+                &self.listeners,
                 &self.files,
                 &mut self.marks,
                 *group,
+                *mask,
                 path.as_slice(),
             )?,
             Step::Begin {
@@ -119,8 +119,12 @@ impl World {
                 },
                 path.as_slice(),
             )?,
-            Step::Advance { access } => advance(&mut self.queues, &mut self.accesses, *access)?,
-            Step::Read { group, size } => read_group(self.alloc, &mut self.queues, *group, *size)?,
+            Step::Advance { access } => advance(&mut self.listeners, &mut self.accesses, *access)?,
+            Step::Read { group, size } => read_group(&mut self.listeners, *group, *size)?,
+            Step::Write { group, bytes } => {
+                write_group(&mut self.listeners, *group, bytes.as_slice())
+            }
+            Step::Close { group } => close_group(&mut self.listeners, &mut self.marks, *group),
         };
         self.steps += 1;
         Ok(reply)
