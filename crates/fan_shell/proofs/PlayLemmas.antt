@@ -6,76 +6,68 @@ use Rattle.std.proofs.KnownBytes.{Appends-trans}
 use Rattle.fan_io.specs.Bytes.{AppendsFront}
 use Rattle.fan_world.specs.World.{WorldState, opening_world}
 use Rattle.fan_shell.specs.declared.line.Line.{Line}
-use Rattle.fan_shell.specs.declared.script.Used.{Used}
 use Rattle.fan_shell.specs.declared.status.Status.{Status}
 use Rattle.fan_shell.specs.declared.status.Status.TheVariants as statuses
 use Rattle.fan_shell.specs.Lines.{LineOf}
-use Rattle.fan_shell.specs.Playing.{if_new, new_line, turn_by, turn, after_turn, played, play}
+use Rattle.fan_shell.specs.Playing.{turn_by, turn, after_turn, played, play}
 use Rattle.fan_shell.specs.Reading.{line_at}
-use Rattle.fan_shell.specs.Script.{Taken, AllTaken, Transcript, printed, nothing_used, is_new, using_line, answered, bad_line_text, lines_of}
+use Rattle.fan_shell.specs.Script.{answered, bad_line_text, lines_of}
 use Rattle.fan_shell.proofs.LineLemmas.{line_takes, line_again}
 
--- a line that was found and may come now
-pub new_from_found : (used : Used) (bytes : List ℕ) (line : Line) → LineOf bytes line → is_new used line ≡ true → Some line ≡ new_line used bytes
-unfolding new_line
-new_from_found used bytes line found new = rw (line_again bytes line found, new) refl
-
--- a line that was found and may not come
-pub not_new_from_found : (used : Used) (bytes : List ℕ) (line : Line) → LineOf bytes line → is_new used line ≡ false → ◌≡◌ {A = Option Line} None (new_line used bytes)
-unfolding new_line
-not_new_from_found used bytes line found old = rw (line_again bytes line found, old) refl
+-- a line that was found is the one that is read
+pub line_from_found : (bytes : List ℕ) (line : Line) → LineOf bytes line → Some line ≡ line_at bytes
+line_from_found bytes line found = sym (line_again bytes line found)
 
 none_at : (bytes : List ℕ) (read : Option Line) → line_at bytes ≡ read → ((line : Line) → LineOf bytes line → ⊥) → read ≡ None
 none_at bytes None is bad = refl
 none_at bytes (Some line) is bad = absurd (bad line (line_takes bytes line is))
 
--- no line was found
-pub not_new_from_bad : (used : Used) (bytes : List ℕ) → ((line : Line) → LineOf bytes line → ⊥) → ◌≡◌ {A = Option Line} None (new_line used bytes)
-unfolding new_line
-not_new_from_bad used bytes bad = rw (none_at bytes (line_at bytes) refl bad) refl
+-- no line is read where there is none
+pub no_line_from_bad : (bytes : List ℕ) → ((line : Line) → LineOf bytes line → ⊥) → ◌≡◌ {A = Option Line} None (line_at bytes)
+no_line_from_bad bytes bad = sym (none_at bytes (line_at bytes) refl bad)
 
 -- a text, and then what lines that follow print
 abbrev pub behind : List ℕ → List ℕ × Status → List ℕ × Status
 behind written rest = (written ++ rest.0, rest.1)
 
 -- the lines before `rest` printed `written`, and left this state for the next line
-pub record Leads (script written rest : List ℕ) (world : WorldState) (used : Used) (number : ℕ) : Type 0 where
-  pub is : play script ≡ behind written (played (lines_of rest) world used number)
+pub record Leads (script written rest : List ℕ) (world : WorldState) (number : ℕ) : Type 0 where
+  pub is : play script ≡ behind written (played (lines_of rest) world number)
 
 -- at the start nothing is printed
-pub leads_start : (script : List ℕ) → Leads script [] script opening_world nothing_used 1
+pub leads_start : (script : List ℕ) → Leads script [] script opening_world 1
 unfolding play
 leads_start script = record { is = refl }
 
 -- the text of a turn stands at the front of what follows it
-text_after : (start : Option (WorldState × Used)) (go_on : WorldState → Used → List ℕ × Status) (text : List ℕ) → (rest_text : List ℕ) × ((after_turn text start go_on).0 ≡ text ++ rest_text)
+text_after : (start : Option WorldState) (go_on : WorldState → List ℕ × Status) (text : List ℕ) → (rest_text : List ℕ) × ((after_turn text start go_on).0 ≡ text ++ rest_text)
 text_after None go_on text = ([], sym (append-nil text))
-text_after (Some start) go_on text = ((go_on start.0 start.1).0, refl)
+text_after (Some start) go_on text = ((go_on start).0, refl)
 
-module _ (script written rest line more : List ℕ) (world : WorldState) (used : Used) (number : ℕ) (leads : Leads script written rest world used number) (lines : lines_of rest ≡ line ∷ lines_of more) where
+module _ (script written rest line more : List ℕ) (world : WorldState) (number : ℕ) (leads : Leads script written rest world number) (lines : lines_of rest ≡ line ∷ lines_of more) where
   -- what a script prints, from its next line on
-  turned : play script ≡ behind written (after_turn (turn world used number line).0 (turn world used number line).1 (λ next_world next_used. played (lines_of more) next_world next_used (number + 1)))
-  turned = leads.is ∙ ap (λ pieces. behind written (played pieces world used number)) lines
+  turned : play script ≡ behind written (after_turn (turn world number line).0 (turn world number line).1 (λ next_world. played (lines_of more) next_world (number + 1)))
+  turned = leads.is ∙ ap (λ pieces. behind written (played pieces world number)) lines
 
   -- a good line was answered
-  pub leads_more : (text : List ℕ) (next_world : WorldState) (next_used : Used) → text ≡ (turn world used number line).0 → (turn world used number line).1 ≡ Some (next_world, next_used) → Leads script (written ++ text) more next_world next_used (number + 1)
-  leads_more text next_world next_used said start = record {
+  pub leads_more : (text : List ℕ) (next_world : WorldState) → text ≡ (turn world number line).0 → (turn world number line).1 ≡ Some next_world → Leads script (written ++ text) more next_world (number + 1)
+  leads_more text next_world said start = record {
     is =
-        turned ∙ rw (start, said) (ap (λ all. (all, (played (lines_of more) next_world next_used (number + 1)).1)) (sym (append_assoc written (turn world used number line).0 (played (lines_of more) next_world next_used (number + 1)).0)));
+        turned ∙ rw (start, said) (ap (λ all. (all, (played (lines_of more) next_world (number + 1)).1)) (sym (append_assoc written (turn world number line).0 (played (lines_of more) next_world (number + 1)).0)));
   }
 
   -- a bad line ends the transcript
-  pub leads_bad : (text : List ℕ) → text ≡ (turn world used number line).0 → (turn world used number line).1 ≡ None → play script ≡ (written ++ text, statuses.BadLine)
+  pub leads_bad : (text : List ℕ) → text ≡ (turn world number line).0 → (turn world number line).1 ≡ None → play script ≡ (written ++ text, statuses.BadLine)
   leads_bad text said none = turned ∙ rw (none, said) refl
 
   -- the text of the next line stands behind what is printed
-  pub text_here : (rest_text : List ℕ) × ((play script).0 ≡ written ++ ((turn world used number line).0 ++ rest_text))
+  pub text_here : (rest_text : List ℕ) × ((play script).0 ≡ written ++ ((turn world number line).0 ++ rest_text))
   text_here =
-      let next = text_after (turn world used number line).1 (λ next_world next_used. played (lines_of more) next_world next_used (number + 1)) (turn world used number line).0 in
+      let next = text_after (turn world number line).1 (λ next_world. played (lines_of more) next_world (number + 1)) (turn world number line).0 in
       (next.0, ap (λ (r : List ℕ × Status). r.0) turned ∙ ap (λ text. written ++ text) next.1)
 
 -- at the end all is printed
-pub leads_end : {script written rest : List ℕ} {world : WorldState} {used : Used} {number : ℕ} → Leads script written rest world used number → length rest ≡ 0 → play script ≡ (written, statuses.Ok)
+pub leads_end : {script written rest : List ℕ} {world : WorldState} {number : ℕ} → Leads script written rest world number → length rest ≡ 0 → play script ≡ (written, statuses.Ok)
 unfolding lines_of
 leads_end {script} {written} {rest} leads none = leads.is ∙ rw (nil_from_length rest none, append-nil) refl
 

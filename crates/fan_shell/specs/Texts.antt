@@ -36,10 +36,18 @@ hex_text (byte ∷ bytes) = (hex_digit (byte / 16) ∷ hex_digit (byte % 16) ∷
 
 -- what a single step of an access did
 unfoldable pub outcome_text : StepOutcome → List ℕ
-outcome_text (outcomes.Queued group) = codes "told " ++ decimal group ++ codes " queued"
+outcome_text (outcomes.Asked group) = codes "asked " ++ decimal group
+outcome_text (outcomes.Blocked group) = codes "blocked " ++ decimal group
+outcome_text (outcomes.Allowed group) = codes "allowed " ++ decimal group
+outcome_text (outcomes.Denied group) = codes "denied " ++ decimal group
 outcome_text (outcomes.Closed group) = codes "closed " ++ decimal group
+outcome_text (outcomes.Full group) = codes "full " ++ decimal group
+outcome_text (outcomes.Queued group) = codes "told " ++ decimal group ++ codes " queued"
+outcome_text (outcomes.Merged group) = codes "told " ++ decimal group ++ codes " merged"
+outcome_text (outcomes.Overflow group) = codes "told " ++ decimal group ++ codes " overflow"
 outcome_text outcomes.Done = codes "done"
 
+-- what is printed for a reply
 unfoldable pub reply_text : Reply → List ℕ
 reply_text replies.Done = codes "ok"
 reply_text (replies.Inode object) = codes "inode " ++ decimal object

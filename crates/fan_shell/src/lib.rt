@@ -16,7 +16,6 @@ mod words;
 pub use laws::exactly_one_transcript;
 pub use line::{Line, LineRefused, at_most_one_line, read_line};
 pub use plain::run_plain;
-pub use script::Used;
 pub use status::Status;
 
 #[cfg(test)]

@@ -1,6 +1,6 @@
 // `run`: the single steps of an access, up to the one that ends it.
 ghost use Rattle.std.specs.Prelude.{◌≡◌, ◌+◌, ◌<◌, ◌≤◌, ◌^◌, ◌++◌, IfOk, OnOk};
-ghost use Rattle.fan_world.specs.Run.{ends_run, ran, most_answers};
+ghost use Rattle.fan_world.specs.Run.{ends_run, is_last, ran, most_answers};
 ghost use Rattle.fan_world.specs.World.{next};
 ghost use Rattle.fan_world.specs.declared.step.Step.TheVariants as steps;
 ghost use Rattle.fan_shell.specs.Texts.{reply_text, more_text, answers_text};
@@ -18,9 +18,18 @@ fn is_end(reply: &Reply) -> bool
     ensures { result ≡ ends_run reply.now }
 {
     match reply {
-        Reply::Out(StepOutcome::Queued(_)) => false,
-        Reply::Out(StepOutcome::Closed(_)) => false,
+        Reply::Out(outcome) => is_last(*outcome),
         _ => true,
+    }
+}
+
+// Whether an outcome ends a run: the access waits, or is finished.
+fn is_last(outcome: StepOutcome) -> bool
+    ensures { result ≡ is_last outcome }
+{
+    match outcome {
+        StepOutcome::Blocked(_) | StepOutcome::Denied(_) | StepOutcome::Done => true,
+        _ => false,
     }
 }
 

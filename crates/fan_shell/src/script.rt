@@ -3,83 +3,27 @@ ghost use Rattle.std.specs.Prelude.{◌≡◌, ◌≢◌, ◌+◌, ◌*◌, ◌<
 ghost use Rattle.std.specs.Io.KnownBytes.{Appends};
 ghost use Rattle.fan_io.specs.Bytes.{AppendsFront};
 ghost use Rattle.fan_io.specs.Faults.{Rose};
-ghost use Rattle.fan_world.specs.World.{opening_world};
-ghost use Rattle.fan_shell.specs.Playing.{new_line, turn, play};
+ghost use Rattle.fan_shell.specs.Reading.{line_at};
+ghost use Rattle.fan_shell.specs.Playing.{turn, play};
 ghost use Rattle.fan_shell.specs.Status.{IsTold, IsToldOrCut};
-ghost use Rattle.fan_shell.specs.Script.{nothing_used, is_new, using_line, answered, bad_line_text, lines_of};
+ghost use Rattle.fan_shell.specs.Script.{answered, bad_line_text, lines_of};
 
 use crate::line::{Line, LineRefused, read_line};
 use crate::run::push_run;
 use crate::status::Status;
 use crate::texts::{push_number, push_reply, push_text};
 use fan_io::{Failed, NoMemory, Sink, put_all};
-use fan_world::{Step, World};
+use fan_world::World;
 use std::alloc::Global;
 
-/// Which steps were asked for so far, of those that a script may ask for once, refused ones too.
-#[derive(Clone, Copy, Debug, PartialEq, Eq)]
-pub struct Used {
-    pub file: bool,
-    pub group: bool,
-    pub mark: bool,
-    pub access: bool,
-}
-
-impl Used {
-    const NOTHING: Used = Used {
-        file: false,
-        group: false,
-        mark: false,
-        access: false,
-    };
-
-    // Whether a line may come now.
-    fn allows(self, line: &Line) -> bool
-        ensures { result ≡ is_new self line.now }
-    {
-        match line {
-            Line::One(Step::MkFile { .. }) => !self.file,
-            Line::One(Step::Init) => !self.group,
-            Line::One(Step::Mark { .. }) => !self.mark,
-            Line::One(Step::Begin { .. }) => !self.access,
-            _ => true,
-        }
-    }
-
-    // What was asked for after a line.
-    fn after(self, line: &Line) -> Used
-        ensures { result ≡ using_line self line.now }
-    {
-        match line {
-            Line::One(Step::MkFile { .. }) => Used { file: true, ..self },
-            Line::One(Step::Init) => Used {
-                group: true,
-                ..self
-            },
-            Line::One(Step::Mark { .. }) => Used { mark: true, ..self },
-            Line::One(Step::Begin { .. }) => Used {
-                access: true,
-                ..self
-            },
-            _ => self,
-        }
-    }
-}
-
-// The line that the bytes are, where it may come now.
-#[tactic(auto, using(crate::proofs::PlayLemmas::new_from_found, crate::proofs::PlayLemmas::not_new_from_found, crate::proofs::PlayLemmas::not_new_from_bad))]
-fn read_new(alloc: Global, used: Used, bytes: &[u8]) -> Result<Option<Line>, NoMemory>
-    ensures line { IfOk result (λ line. line ≡ new_line used bytes.now) }
+// The line that the bytes are, if they are one.
+#[tactic(auto, using(crate::proofs::PlayLemmas::line_from_found, crate::proofs::PlayLemmas::no_line_from_bad))]
+fn read_if_line(alloc: Global, bytes: &[u8]) -> Result<Option<Line>, NoMemory>
+    ensures line { IfOk result (λ line. line ≡ line_at bytes.now) }
     ensures long { IfOk result (λ line. IfSome line (λ _. 5 ≤ length bytes.now)) }
 {
     match read_line(alloc, bytes) {
-        Ok(line) => {
-            if used.allows(&line) {
-                Ok(Some(line))
-            } else {
-                Ok(None)
-            }
-        }
+        Ok(line) => Ok(Some(line)),
         Err(LineRefused::BadLine) => Ok(None),
         Err(LineRefused::NoMemory) => Err(NoMemory),
     }
@@ -124,27 +68,25 @@ fn push_bad_line(alloc: Global, out: &mut Vec<u8>, number: u32) -> Result<(), No
 fn answer_line(
     alloc: Global,
     world: &mut World,
-    used: &mut Used,
     number: u32,
     bytes: &[u8],
     out: &mut Vec<u8>,
 ) -> Result<bool, NoMemory>
     requires { world.old.steps + 385 ≤ 2 ^ 30 }
     ensures text { OnOk result (out.new.items
-        ≡ out.old.items ++ (turn world.old.state used.old number bytes.now).0) }
-    ensures start { IfOk result (λ good. (turn world.old.state used.old number bytes.now).1
-        ≡ (if good then Some (world.new.state, used.new) else None)) }
+        ≡ out.old.items ++ (turn world.old.state number bytes.now).0) }
+    ensures start { IfOk result (λ good. (turn world.old.state number bytes.now).1
+        ≡ (if good then Some world.new.state else None)) }
     ensures steps { world.new.steps ≤ world.old.steps + 385 }
     ensures long { IfOk result (λ good. good ≡ true → 5 ≤ length bytes.now) }
 {
-    match read_new(alloc, *used, bytes)? {
+    match read_if_line(alloc, bytes)? {
         None => {
             push_bad_line(alloc, out, number)?;
             Ok(false)
         }
         Some(line) => {
             push_answered(alloc, world, &line, out)?;
-            *used = used.after(&line);
             Ok(true)
         }
     }
@@ -185,14 +127,13 @@ pub(crate) fn write_transcript<K: Sink>(alloc: Global, script: &[u8], sink: &mut
     ensures kept { K.faults sink.old ≤ K.faults sink.new }
 {
     let mut world = World::new(alloc);
-    let mut used = Used::NOTHING;
     let mut number = 1;
     let mut rest = script;
     let mut text = Vec::new(alloc);
     while !rest.is_empty() {
         let (line, more) = split_line(rest);
         text.clear();
-        let good = match answer_line(alloc, &mut world, &mut used, number, line, &mut text) {
+        let good = match answer_line(alloc, &mut world, number, line, &mut text) {
             Ok(good) => good,
             Err(NoMemory) => return Status::NoMemory,
         };

@@ -1,5 +1,5 @@
 // The texts of replies.
-ghost use Rattle.std.specs.Prelude.{◌≡◌, ◌+◌, ◌<◌, ◌++◌, OnOk};
+ghost use Rattle.std.specs.Prelude.{◌≡◌, ◌+◌, ◌<◌, ◌++◌, OnOk, codes};
 ghost use Rattle.std.specs.Fmt.{decimal};
 ghost use Rattle.fan_shell.specs.Texts.{errno_text, hex_digit, hex_text, outcome_text, reply_text};
 
@@ -68,20 +68,40 @@ fn push_hex(out: &mut Vec<u8>, bytes: &[u8]) -> Result<(), NoMemory>
     Ok(())
 }
 
+// Puts a word and a number at the end.
+#[tactic(auto, using(std::proofs::Common::append_assoc))]
+fn push_named(alloc: Global, out: &mut Vec<u8>, name: &str, number: u32) -> Result<(), NoMemory>
+    ensures { OnOk result (out.new.items ≡ out.old.items ++ (name.now ++ decimal number)) }
+{
+    push_text(out, name)?;
+    push_number(alloc, out, number.into())
+}
+
+// Puts how a group was told at the end.
+#[tactic(auto, using(std::proofs::Common::append_assoc))]
+fn push_told(alloc: Global, out: &mut Vec<u8>, group: u32, how: &str) -> Result<(), NoMemory>
+    ensures { OnOk result (out.new.items
+        ≡ out.old.items ++ (codes "told " ++ decimal group ++ how.now)) }
+{
+    push_text(out, "told ")?;
+    push_number(alloc, out, group.into())?;
+    push_text(out, how)
+}
+
 #[tactic(auto, using(std::proofs::Common::append_assoc), unfolding(crate::specs::Texts::outcome_text))]
 fn push_outcome(alloc: Global, out: &mut Vec<u8>, outcome: StepOutcome) -> Result<(), NoMemory>
     ensures { OnOk result (out.new.items ≡ out.old.items ++ outcome_text outcome) }
 {
     match outcome {
-        StepOutcome::Queued(group) => {
-            push_text(out, "told ")?;
-            push_number(alloc, out, group.into())?;
-            push_text(out, " queued")
-        }
-        StepOutcome::Closed(group) => {
-            push_text(out, "closed ")?;
-            push_number(alloc, out, group.into())
-        }
+        StepOutcome::Asked(group) => push_named(alloc, out, "asked ", group),
+        StepOutcome::Blocked(group) => push_named(alloc, out, "blocked ", group),
+        StepOutcome::Allowed(group) => push_named(alloc, out, "allowed ", group),
+        StepOutcome::Denied(group) => push_named(alloc, out, "denied ", group),
+        StepOutcome::Closed(group) => push_named(alloc, out, "closed ", group),
+        StepOutcome::Full(group) => push_named(alloc, out, "full ", group),
+        StepOutcome::Queued(group) => push_told(alloc, out, group, " queued"),
+        StepOutcome::Merged(group) => push_told(alloc, out, group, " merged"),
+        StepOutcome::Overflow(group) => push_told(alloc, out, group, " overflow"),
         StepOutcome::Done => push_text(out, "done"),
     }
 }
@@ -93,14 +113,8 @@ pub(crate) fn push_reply(alloc: Global, out: &mut Vec<u8>, reply: &Reply) -> Res
 {
     match reply {
         Reply::Done => push_text(out, "ok"),
-        Reply::Inode(object) => {
-            push_text(out, "inode ")?;
-            push_number(alloc, out, (*object).into())
-        }
-        Reply::Group(group) => {
-            push_text(out, "group ")?;
-            push_number(alloc, out, (*group).into())
-        }
+        Reply::Inode(object) => push_named(alloc, out, "inode ", *object),
+        Reply::Group(group) => push_named(alloc, out, "group ", *group),
         Reply::Bytes(bytes) => {
             push_text(out, "bytes ")?;
             push_hex(out, bytes.as_slice())

@@ -20,16 +20,16 @@ loop-rest-init g c = rw c.new-world.ensures (record {
 pub returns-in-Err-put_all-clause-front : goal.returns-in-Err-put_all-clause-front
 returns-in-Err-put_all-clause-front g c =
     let put = c.loop-rest.invariant.put in
-    let said : c.deref.result.now ≡ (turn c.loop-rest.world.state c.loop-rest.used c.loop-rest.number c.split_line.result.0.now).0 = search rules in
-    let here = text_here c.args.script.now put.0 c.loop-rest.rest.now c.split_line.result.0.now c.split_line.result.1.now _ _ _ put.2 c.split_line.ensures.lines in
+    let said : c.deref.result.now ≡ (turn c.loop-rest.world.state c.loop-rest.number c.split_line.result.0.now).0 = search rules in
+    let here = text_here c.args.script.now put.0 c.loop-rest.rest.now c.split_line.result.0.now c.split_line.result.1.now _ _ put.2 c.split_line.ensures.lines in
     front_behind _ _ _ put.0 c.deref.result.now here.0 (play c.args.script.now).0 put.1 c.in-Err-put_all.ensures.front (here.1 ∙ ap (λ text. put.0 ++ (text ++ here.0)) (sym said))
 
 pub returns-then-not-good-clause-told : goal.returns-then-not-good-clause-told
 returns-then-not-good-clause-told g c = λ _.
     let put = c.loop-rest.invariant.put in
-    let said : c.deref.result.now ≡ (turn c.loop-rest.world.state c.loop-rest.used c.loop-rest.number c.split_line.result.0.now).0 = search rules in
-    let none : (turn c.loop-rest.world.state c.loop-rest.used c.loop-rest.number c.split_line.result.0.now).1 ≡ None = rw c.if-not-good.true at c.in-Ok.ensures.start in
-    rw (leads_bad c.args.script.now put.0 c.loop-rest.rest.now c.split_line.result.0.now c.split_line.result.1.now _ _ _ put.2 c.split_line.ensures.lines c.deref.result.now said none)
+    let said : c.deref.result.now ≡ (turn c.loop-rest.world.state c.loop-rest.number c.split_line.result.0.now).0 = search rules in
+    let none : (turn c.loop-rest.world.state c.loop-rest.number c.split_line.result.0.now).1 ≡ None = rw c.if-not-good.true at c.in-Ok.ensures.start in
+    rw (leads_bad c.args.script.now put.0 c.loop-rest.rest.now c.split_line.result.0.now c.split_line.result.1.now _ _ put.2 c.split_line.ensures.lines c.deref.result.now said none)
     (Appends-trans _ _ _ put.0 c.deref.result.now put.1 c.in-Ok-put_all.ensures.whole)
 
 pub returns-then-not-good-clause-front : goal.returns-then-not-good-clause-front
@@ -40,14 +40,14 @@ returns-then-not-good-clause-front g c =
 pub loop-rest-preserved : goal.loop-rest-preserved
 loop-rest-preserved g c =
     let put = c.loop-rest.invariant.put in
-    let said : c.deref.result.now ≡ (turn c.loop-rest.world.state c.loop-rest.used c.loop-rest.number c.split_line.result.0.now).0 = search rules in
-    let start : (turn c.loop-rest.world.state c.loop-rest.used c.loop-rest.number c.split_line.result.0.now).1 ≡ Some (c.answer_line.new.world.state, c.answer_line.new.used) = rw c.if-not-good.false at c.in-Ok.ensures.start in
+    let said : c.deref.result.now ≡ (turn c.loop-rest.world.state c.loop-rest.number c.split_line.result.0.now).0 = search rules in
+    let start : (turn c.loop-rest.world.state c.loop-rest.number c.split_line.result.0.now).1 ≡ Some c.answer_line.new.world.state = rw c.if-not-good.false at c.in-Ok.ensures.start in
     let long : 5 ≤ length c.split_line.result.0.now = c.in-Ok.ensures.long c.if-not-good.false in
     record {
       put = (
         put.0 ++ c.deref.result.now,
         Appends-trans _ _ _ put.0 c.deref.result.now put.1 c.in-Ok-put_all.ensures.whole,
-        leads_more c.args.script.now put.0 c.loop-rest.rest.now c.split_line.result.0.now c.split_line.result.1.now _ _ _ put.2 c.split_line.ensures.lines c.deref.result.now _ _ said start,
+        leads_more c.args.script.now put.0 c.loop-rest.rest.now c.split_line.result.0.now c.split_line.result.1.now _ _ put.2 c.split_line.ensures.lines c.deref.result.now _ said start,
       );
       steps = omega (arith, long, c.in-Ok.ensures.steps);
       numbers = omega (arith, c.split_line.ensures.shorter);
