@@ -23,9 +23,10 @@ first_from_position test xs at d found =
 -- the same place one element later
 later : {X : Type 0} (test : X → Bool) (x : X) (xs : List X) (at : ℕ) (d : X) → IsFirst test (x ∷ xs) (suc at) d → IsFirst test xs at d
 later test x xs at d first = record {
-    within = let within = first.within in omega arith;
-    passes = first.passes;
-    before = λ k below. first.before (suc k) (omega arith) }
+  within = let within = first.within in omega arith;
+  passes = first.passes;
+  before = λ k below. first.before (suc k) (omega arith);
+}
 
 -- a search finds the first that passes
 pub find_first : {X : Type 0} (test : X → Bool) (xs : List X) (at : ℕ) (d : X) → IsFirst test xs at d → find test xs ≡ Some (get_or xs at d)
