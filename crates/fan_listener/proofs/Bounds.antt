@@ -1,13 +1,11 @@
 -- How far each step of a listener moves its numbers.
-use Rattle.std.proofs.Common.{suc, ◌≡◌, ◌∙◌, ℕ, ◌+◌, ◌-◌, ◌≤◌, Bool, true, false, cond, List, [], ◌∷◌, ◌++◌, length, take, drop, ◌==◌, Option, Some, None, Result, Ok, Err, refl, sym, ap, subst, arith, length-append, length-drop, nat_lt, nat_le, find}
-use Rattle.std.proofs.lemmas.Bool.Decides.{nat_tests}
+use Rattle.std.proofs.Common.{suc, ◌≡◌, ℕ, ◌+◌, ◌-◌, ◌≤◌, Bool, true, false, cond, List, [], ◌∷◌, length, take, drop, ◌==◌, Option, Some, None, Result, Ok, Err, refl, ap, arith, length-append, length-drop, nat_lt, nat_le}
 use Rattle.std.specs.Int.{from_le_bytes, w32}
 use Rattle.fan_listener.specs.declared.event.Event.{Event}
 use Rattle.fan_listener.specs.declared.queue.Body.{Body}
 use Rattle.fan_listener.specs.declared.queue.Body.TheVariants.{Told, Lost}
 use Rattle.fan_listener.specs.declared.queue.Entry.{Entry}
 use Rattle.fan_listener.specs.declared.queue.Put.{Put}
-use Rattle.fan_listener.specs.declared.queue.Put.TheVariants as puts
 use Rattle.fan_listener.specs.declared.answers.Answered.{Answered}
 use Rattle.fan_listener.specs.declared.answers.Answer.{Answer}
 use Rattle.fan_listener.specs.declared.answers.ReadRefused.{ReadRefused}
@@ -16,7 +14,7 @@ use Rattle.fan_listener.specs.declared.answers.WriteRefused.{WriteRefused}
 use Rattle.fan_listener.specs.declared.answers.WriteRefused.TheVariants as refusals
 use Rattle.fan_listener.specs.First.{change_first}
 use Rattle.fan_listener.specs.ListenerState.{ListenerState}
-use Rattle.fan_listener.specs.Queue.{put, put_lost, put_told, queued, is_full, is_lost, takes, merged, first_number}
+use Rattle.fan_listener.specs.Queue.{put, put_lost, put_told, queued, is_full, is_lost, takes, first_number}
 use Rattle.fan_listener.specs.Records.{read_of, read_queue, read_front, front_within, records, next_fd_after, fd_after, record_len}
 use Rattle.fan_listener.specs.Responses.{written, responded, answered, answered_state, waiting_under, verdict, answer_of, closed_of}
 use Rattle.fan_listener.specs.Bounds.{Makes}

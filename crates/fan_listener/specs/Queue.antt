@@ -104,7 +104,8 @@ put_lost state None = (puts.Overflow state.next_entry, queued state Lost)
 -- the listener after a merge
 abbrev pub merged_state : ListenerState → Event → ListenerState
 merged_state state event = record state {
-    queue = change_first (takes event) (merged event) state.queue }
+  queue = change_first (takes event) (merged event) state.queue;
+}
 
 -- the first queued event with its key takes its bits; where there is none, it is queued last
 abbrev pub put_told : ListenerState → Event → Option ℕ → Put × ListenerState

@@ -1,7 +1,6 @@
 -- What a read gives, and what it leaves: fanotify(7).
-use Rattle.std.specs.Prelude.{ℕ, ℤ, pos, negsuc, ◌+◌, ◌-◌, nat_lt, nat_le, Bool, if◌then◌else◌, List, [], ◌∷◌, ◌++◌, length, drop, Result, Ok, Err}
+use Rattle.std.specs.Prelude.{ℕ, ℤ, pos, negsuc, ◌+◌, ◌-◌, nat_lt, nat_le, if◌then◌else◌, List, [], ◌∷◌, ◌++◌, length, drop, Result, Ok, Err}
 use Rattle.std.specs.Int.{to_le_bytes, cast_unsigned, w16, w32, w64}
-use Rattle.fan_listener.specs.declared.event.Event.{Event}
 use Rattle.fan_listener.specs.declared.queue.Body.{Body}
 use Rattle.fan_listener.specs.declared.queue.Body.TheVariants.{Told, Lost}
 use Rattle.fan_listener.specs.declared.queue.Entry.{Entry}

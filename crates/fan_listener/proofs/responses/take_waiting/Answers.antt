@@ -1,4 +1,4 @@
-use Rattle.std.proofs.Common.{◌≡◌, ◌∙◌, sym, ap, position, None, Some, arith}
+use Rattle.std.proofs.Common.{◌∙◌, sym, ap, position, None, Some, arith}
 use Rattle.fan_listener.specs.Responses.{is_under}
 use Rattle.fan_listener.proofs.FirstLemmas.{found_at, removed_at, find_none}
 use Rattle.fan_listener.proofs.ResponseLemmas.{waiting_found}
