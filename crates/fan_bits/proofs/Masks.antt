@@ -36,9 +36,10 @@ unfolding all_below
 all_below_at zero at test below passes = absurd (omega arith)
 all_below_at (suc number) at test below passes =
     let parts = both_pass (all_below number test) (test number) passes in
-    elim (eqb at number) as (λ same. eqb at number ≡ same → test at ≡ true)
-      [ true ↦ λ same. let here : at ≡ number = eqb-true at number same in rw here parts.1
-      | false ↦ λ other. all_below_at number at test (grind (arith, nat_tests)) parts.0 ] refl
+    elim (eqb at number) as (λ same. eqb at number ≡ same → test at ≡ true) [
+      | true ↦ λ same. let here : at ≡ number = eqb-true at number same in rw here parts.1
+      | false ↦ λ other. all_below_at number at test (grind (arith, nat_tests)) parts.0
+    ] refl
 
 -- what passes at each number below one passes below it
 all_below_all : (number : ℕ) (test : ℕ → Bool) → ((at : ℕ) → at < number → test at ≡ true) → all_below number test ≡ true
@@ -70,9 +71,9 @@ unfolding has_only_flags occurs
 mask_has_only_flags flags small =
     let test = λ (number : ℕ). is_flag number || not (bit_at flags number == 1) in
     same_tests _ _
-      (λ kept. all_below_all 32 test (λ at below.
-        only_bit (is_flag at) (bit_at flags at) (bit_at 0xf3f at) (bit_at-lt flags at) (flag_bits at below)
-          (sym (bit_at_and flags 0xf3f at) ∙ ap (λ n. bit_at n at) (eqb-true _ _ kept))))
-      (λ only. eq-eqb _ _ (same_from_bits_below 32 _ _ (omega (arith, and_le_l flags 0xf3f)) small (λ at below.
-        bit_at_and flags 0xf3f at
-        ∙ kept_bit (is_flag at) (bit_at flags at) (bit_at 0xf3f at) (bit_at-lt flags at) (flag_bits at below) (all_below_at 32 at test below only))))
+    (λ kept. all_below_all 32 test (λ at below.
+    only_bit (is_flag at) (bit_at flags at) (bit_at 0xf3f at) (bit_at-lt flags at) (flag_bits at below)
+    (sym (bit_at_and flags 0xf3f at) ∙ ap (λ n. bit_at n at) (eqb-true _ _ kept))))
+    (λ only. eq-eqb _ _ (same_from_bits_below 32 _ _ (omega (arith, and_le_l flags 0xf3f)) small (λ at below.
+    bit_at_and flags 0xf3f at
+    ∙ kept_bit (is_flag at) (bit_at flags at) (bit_at 0xf3f at) (bit_at-lt flags at) (flag_bits at below) (all_below_at 32 at test below only))))

@@ -1,6 +1,6 @@
 // The names of the errors with which a step is refused: errno(3).
 
-/// Why a step was refused, as in the pages fanotify_init(2), fanotify_mark(2), open(2) and rename(2).
+/// Why a step was refused, as in fanotify_init(2), fanotify_mark(2), open(2) and rename(2).
 #[derive(Clone, Copy, Debug, PartialEq, Eq)]
 pub enum Errno {
     /// No such group is open.

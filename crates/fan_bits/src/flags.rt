@@ -27,8 +27,7 @@ impl Flags for InitFlags {
 
     ghost exact = { ⊤ };
 
-    ghost table = {
-        (codes "CLOEXEC", 0x1) ∷ (codes "NONBLOCK", 0x2)
+    ghost table = { (codes "CLOEXEC", 0x1) ∷ (codes "NONBLOCK", 0x2)
         ∷ (codes "CLASS_CONTENT", 0x4) ∷ (codes "CLASS_PRE_CONTENT", 0x8)
         ∷ (codes "UNLIMITED_QUEUE", 0x10) ∷ (codes "UNLIMITED_MARKS", 0x20)
         ∷ (codes "REPORT_TID", 0x100) ∷ (codes "REPORT_FID", 0x200)

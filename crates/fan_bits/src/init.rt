@@ -15,9 +15,10 @@ pub struct InitWords {
     pub ghost valid: { IsInitFlags bits },
 }
 
-/// Takes a flag word for a group. `Einval` comes exactly where a bit is no flag of fanotify_init(2),
-/// where both class flags stand together, where FAN_REPORT_FID or FAN_REPORT_DIR_FID stands with a
-/// class flag, or where FAN_REPORT_NAME stands without FAN_REPORT_DIR_FID.
+/// Takes a flag word for a group. `Einval` comes exactly where a bit is no flag of
+/// fanotify_init(2), where both class flags stand together, where FAN_REPORT_FID or
+/// FAN_REPORT_DIR_FID stands with a class flag, or where FAN_REPORT_NAME stands without
+/// FAN_REPORT_DIR_FID.
 pub fn init_words(flags: u32) -> Result<InitWords, Errno>
     ensures word { IfOk result (λ words. words.bits ≡ flags) }
     ensures taken { IsOk result ↔ IsInitFlags flags }

@@ -5,6 +5,8 @@ mod class;
 mod errno;
 mod flags;
 mod init;
+#[cfg(test)]
+mod tests;
 
 pub use class::Class;
 pub use errno::Errno;

@@ -1,13 +1,11 @@
 -- How far each step of a listener moves its numbers.
-use Rattle.std.proofs.Common.{suc, ◌≡◌, ◌∙◌, ℕ, ◌+◌, ◌-◌, ◌≤◌, Bool, true, false, cond, List, [], ◌∷◌, ◌++◌, length, take, drop, ◌==◌, Option, Some, None, Result, Ok, Err, refl, sym, ap, subst, arith, length-append, length-drop, nat_lt, nat_le, find}
-use Rattle.std.proofs.lemmas.Bool.Decides.{nat_tests}
+use Rattle.std.proofs.Common.{suc, ◌≡◌, ℕ, ◌+◌, ◌-◌, ◌≤◌, Bool, true, false, cond, List, [], ◌∷◌, length, take, drop, ◌==◌, Option, Some, None, Result, Ok, Err, refl, ap, arith, length-append, length-drop, nat_lt, nat_le}
 use Rattle.std.specs.Int.{from_le_bytes, w32}
 use Rattle.fan_listener.specs.declared.event.Event.{Event}
 use Rattle.fan_listener.specs.declared.queue.Body.{Body}
 use Rattle.fan_listener.specs.declared.queue.Body.TheVariants.{Told, Lost}
 use Rattle.fan_listener.specs.declared.queue.Entry.{Entry}
 use Rattle.fan_listener.specs.declared.queue.Put.{Put}
-use Rattle.fan_listener.specs.declared.queue.Put.TheVariants as puts
 use Rattle.fan_listener.specs.declared.answers.Answered.{Answered}
 use Rattle.fan_listener.specs.declared.answers.Answer.{Answer}
 use Rattle.fan_listener.specs.declared.answers.ReadRefused.{ReadRefused}
@@ -16,7 +14,7 @@ use Rattle.fan_listener.specs.declared.answers.WriteRefused.{WriteRefused}
 use Rattle.fan_listener.specs.declared.answers.WriteRefused.TheVariants as refusals
 use Rattle.fan_listener.specs.First.{change_first}
 use Rattle.fan_listener.specs.ListenerState.{ListenerState}
-use Rattle.fan_listener.specs.Queue.{put, put_lost, put_told, queued, is_full, is_lost, takes, merged, first_number}
+use Rattle.fan_listener.specs.Queue.{put, put_lost, put_told, queued, is_full, is_lost, takes, first_number}
 use Rattle.fan_listener.specs.Records.{read_of, read_queue, read_front, front_within, records, next_fd_after, fd_after, record_len}
 use Rattle.fan_listener.specs.Responses.{written, responded, answered, answered_state, waiting_under, verdict, answer_of, closed_of}
 use Rattle.fan_listener.specs.Bounds.{Makes}
@@ -29,10 +27,11 @@ stays entries state = record { made = omega arith; given = omega arith; same_fla
 makes-queued : (state : ListenerState) (body : Body) → Makes 1 state (queued state body)
 unfolding queued
 makes-queued state body = record {
-    made = omega arith;
-    given = rw length-append (omega arith);
-    same_flags = refl;
-    same_limit = refl }
+  made = omega arith;
+  given = rw length-append (omega arith);
+  same_flags = refl;
+  same_limit = refl;
+}
 
 -- a change in a choice keeps the length
 length-cond : {X : Type 0} (b : Bool) (y x : X) (xs ys : List X) → length ys ≡ length xs → length (cond b (y ∷ xs) (x ∷ ys)) ≡ length (x ∷ xs)
@@ -50,10 +49,11 @@ makes-put_lost state None = makes-queued state Lost
 
 makes-put_told : (state : ListenerState) (event : Event) (number : Option ℕ) → Makes 1 state (put_told state event number).1
 makes-put_told state event (Some number) = record {
-    made = omega arith;
-    given = rw length-change_first (omega arith);
-    same_flags = refl;
-    same_limit = refl }
+  made = omega arith;
+  given = rw length-change_first (omega arith);
+  same_flags = refl;
+  same_limit = refl;
+}
 makes-put_told state event None = makes-queued state (Told event)
 
 -- a choice makes what both parts make
@@ -66,9 +66,9 @@ pub makes-put : (state : ListenerState) (event : Event) → Makes 1 state (put s
 unfolding put
 makes-put state event =
     makes-cond state.closed state _ _ (stays 1 state)
-      (makes-cond (is_full state) state _ _ (makes-put_lost state (first_number is_lost state.queue))
-        (makes-cond event.perm state _ _ (makes-put_told state event None)
-          (makes-put_told state event (first_number (takes event) state.queue))))
+    (makes-cond (is_full state) state _ _ (makes-put_lost state (first_number is_lost state.queue))
+    (makes-cond event.perm state _ _ (makes-put_told state event None)
+    (makes-put_told state event (first_number (takes event) state.queue))))
 
 -- an entry takes one descriptor at most
 fd_after-le : (fd : ℕ) (body : Body) → fd_after fd body ≤ fd + 1
@@ -96,10 +96,11 @@ length-front_within size (entry ∷ rest) =
 pub makes-read_front : (state : ListenerState) (size : ℕ) → Makes 0 state (read_front state (front_within size state.queue))
 unfolding read_front
 makes-read_front state size = record {
-    made = omega arith;
-    given = rw length-drop (omega (arith, next_fd_after-le state.next_fd (front_within size state.queue), length-front_within size state.queue));
-    same_flags = refl;
-    same_limit = refl }
+  made = omega arith;
+  given = rw length-drop (omega (arith, next_fd_after-le state.next_fd (front_within size state.queue), length-front_within size state.queue));
+  same_flags = refl;
+  same_limit = refl;
+}
 
 -- the second part of what an outcome gives
 second_or : {A B E : Type 0} → B → Result (A × B) E → B
@@ -112,10 +113,10 @@ unfolding second_or
 same_second a a' b b' same = ap (second_or b) same
 
 -- a read of a front that gives bytes leaves what the front leaves
-front_read : (small : Bool) (state : ListenerState) (size : ℕ) (queue : List Entry) (bytes : List ℕ) (after : ListenerState) → queue ≡ state.queue
+makes-front : (small : Bool) (state : ListenerState) (size : ℕ) (queue : List Entry) (bytes : List ℕ) (after : ListenerState) → queue ≡ state.queue
     → cond {A = Result (List ℕ × ListenerState) ReadRefused} small (Err reads.Small) (Ok (records state.next_fd (front_within size queue), read_front state (front_within size queue))) ≡ Ok (bytes, after) → Makes 0 state after
-front_read true state size queue bytes after is given = absurd cc
-front_read false state size queue bytes after is given =
+makes-front true state size queue bytes after is given = absurd cc
+makes-front false state size queue bytes after is given =
     let same : read_front state (front_within size queue) ≡ after = same_second _ _ _ _ given in
     rw (← same, is) (makes-read_front state size)
 
@@ -123,7 +124,7 @@ front_read false state size queue bytes after is given =
 makes-read_queue : (state : ListenerState) (size : ℕ) (queue : List Entry) (bytes : List ℕ) (after : ListenerState) → queue ≡ state.queue → read_queue state size queue ≡ Ok (bytes, after) → Makes 0 state after
 makes-read_queue state size [] bytes after is given = absurd cc
 makes-read_queue state size (first ∷ rest) bytes after is given =
-    front_read (nat_lt size record_len) state size (first ∷ rest) bytes after is given
+    makes-front (nat_lt size record_len) state size (first ∷ rest) bytes after is given
 
 -- a read of an open listener
 open_read : (closed : Bool) (state : ListenerState) (size : ℕ) (bytes : List ℕ) (after : ListenerState)
@@ -161,7 +162,7 @@ pub makes-written : (state : ListenerState) (bytes : List ℕ) (done : Answered)
 unfolding written
 makes-written state bytes done after given =
     open_written state.closed (length bytes == 8) state _ done after
-      (makes-responded state (from_le_bytes w32 (take 4 bytes)) (verdict (from_le_bytes w32 (drop 4 bytes))) done after) given
+    (makes-responded state (from_le_bytes w32 (take 4 bytes)) (verdict (from_le_bytes w32 (drop 4 bytes))) done after) given
 
 -- an answer that is taken makes nothing
 pub makes-answer_of : (state : ListenerState) (entry : ℕ) → Makes 0 state (answer_of state entry).1

@@ -1,8 +1,8 @@
 -- A place that a search gave, against the searches and edits of the whole list.
-use Rattle.std.proofs.Common.{◌≡◌, ◌∙◌, ℕ, ◌+◌, ◌<◌, ◌≤◌, Bool, true, false, cond, List, [], ◌∷◌, ◌++◌, length, get_or, set, take, drop, find, position, Option, Some, None, IsSome, zero, suc, refl, sym, ap, arith, slice_get, remove}
+use Rattle.std.proofs.Common.{◌≡◌, ◌∙◌, ℕ, ◌<◌, ◌≤◌, Bool, true, false, cond, List, [], ◌∷◌, length, get_or, set, find, position, Option, Some, None, zero, suc, refl, sym, ap, arith, remove}
 use Rattle.std.proofs.lemmas.List.Folds.{find_at}
 use Rattle.std.proofs.lemmas.List.Quantifiers.{position-Some}
-use Rattle.std.proofs.lemmas.Option.{slice_get_past, slice_get-get_or}
+use Rattle.std.proofs.lemmas.Option.{slice_get_past}
 use Rattle.std.proofs.lemmas.Bool.Decides.{nat_tests}
 use Rattle.std.specs.List.{position_or_len}
 use Rattle.std.specs.Prelude.{nat_lt}
@@ -23,9 +23,10 @@ first_from_position test xs at d found =
 -- the same place one element later
 later : {X : Type 0} (test : X → Bool) (x : X) (xs : List X) (at : ℕ) (d : X) → IsFirst test (x ∷ xs) (suc at) d → IsFirst test xs at d
 later test x xs at d first = record {
-    within = let within = first.within in omega arith;
-    passes = first.passes;
-    before = λ k below. first.before (suc k) (omega arith) }
+  within = let within = first.within in omega arith;
+  passes = first.passes;
+  before = λ k below. first.before (suc k) (omega arith);
+}
 
 -- a search finds the first that passes
 pub find_first : {X : Type 0} (test : X → Bool) (xs : List X) (at : ℕ) (d : X) → IsFirst test xs at d → find test xs ≡ Some (get_or xs at d)

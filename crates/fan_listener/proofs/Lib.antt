@@ -3,3 +3,4 @@ pub mod ResponseLemmas
 pub mod QueueLemmas
 pub mod RecordLemmas
 pub mod Bounds
+pub mod Laws

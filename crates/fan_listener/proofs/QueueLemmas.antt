@@ -1,5 +1,5 @@
 -- What a merge leaves as it was.
-use Rattle.std.proofs.Common.{◌≡◌, ◌∙◌, ℕ, ◌+◌, Bool, true, false, cond, List, [], ◌∷◌, refl, ap, arith, count_by}
+use Rattle.std.proofs.Common.{◌≡◌, ℕ, Bool, true, false, cond, List, [], ◌∷◌, refl, count_by}
 use Rattle.std.proofs.lemmas.List.Sums.{sum_by-cons}
 use Rattle.fan_listener.specs.declared.event.Event.{Event}
 use Rattle.fan_listener.specs.declared.queue.Body.{Body}
@@ -28,8 +28,8 @@ pub count_by-change_first : {X : Type 0} (test counted : X → Bool) (change : X
 count_by-change_first test counted change [] keeps = refl
 count_by-change_first test counted change (x ∷ xs) keeps =
     count-cond counted (test x) (change x ∷ xs) (x ∷ change_first test change xs) (count_by counted (x ∷ xs))
-      (rw (sum_by-cons, sum_by-cons, keeps x) refl)
-      (rw (sum_by-cons, sum_by-cons, count_by-change_first test counted change xs keeps) refl)
+    (rw (sum_by-cons, sum_by-cons, keeps x) refl)
+    (rw (sum_by-cons, sum_by-cons, count_by-change_first test counted change xs keeps) refl)
 
 -- as many permission events are queued after a merge as before
 pub waiting-merged : (event : Event) (entries : List Entry) → count_by asks (change_first (takes event) (merged event) entries) ≡ count_by asks entries

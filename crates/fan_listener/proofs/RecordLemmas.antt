@@ -1,5 +1,5 @@
 -- The front of a queue by division.
-use Rattle.std.proofs.Common.{◌≡◌, ◌∙◌, ℕ, ◌+◌, ◌-◌, ◌*◌, ◌/◌, ◌<◌, ◌≤◌, true, false, cond, List, [], ◌∷◌, ◌++◌, append_assoc, Bool, count_by, length-append, drop, take, length, min, zero, suc, refl, sym, ap, arith, nat_le}
+use Rattle.std.proofs.Common.{◌≡◌, ℕ, ◌+◌, ◌-◌, ◌*◌, ◌<◌, ◌≤◌, true, false, cond, List, [], ◌∷◌, ◌++◌, append_assoc, Bool, count_by, length-append, drop, take, length, min, zero, suc, refl, ap, arith, nat_le}
 use native.Mathlib.Numerals.{unary_clauses}
 use Rattle.std.proofs.lemmas.Bool.Decides.{nat_tests}
 use Rattle.fan_listener.specs.declared.queue.Entry.{Entry}
@@ -8,7 +8,7 @@ use Rattle.fan_listener.specs.declared.queue.Body.TheVariants.{Told, Lost}
 use Rattle.fan_listener.specs.declared.answers.Pending.{Pending}
 use Rattle.std.proofs.lemmas.List.Sums.{sum_by-cons, sum_by-take-drop}
 use Rattle.fan_listener.specs.Queue.{asks, body_asks}
-use Rattle.fan_listener.specs.Records.{front_within, record_len, pendings, pending_of, fd_after}
+use Rattle.fan_listener.specs.Records.{front_within, pendings, pending_of, fd_after}
 
 -- so many records fit, and no more
 pub front_by_count : (count size : ℕ) (entries : List Entry) → 24 * count ≤ size → size < 24 * count + 24 → take (min count (length entries)) entries ≡ front_within size entries

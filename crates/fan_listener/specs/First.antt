@@ -9,4 +9,5 @@ without_first test (x ∷ xs) = if test x then xs else x ∷ without_first test 
 -- with the first element that passes changed
 abbrev pub change_first : {X : Type 0} → (X → Bool) → (X → X) → List X → List X
 change_first test change [] = []
-change_first test change (x ∷ xs) = if test x then change x ∷ xs else x ∷ change_first test change xs
+change_first test change (x ∷ xs) =
+    if test x then change x ∷ xs else x ∷ change_first test change xs

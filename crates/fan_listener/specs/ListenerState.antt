@@ -4,8 +4,8 @@ use Rattle.fan_listener.specs.declared.queue.Entry.{Entry}
 use Rattle.fan_listener.specs.declared.answers.Pending.{Pending}
 use Rattle.fan_listener.specs.declared.answers.Kept.{Kept}
 
--- the flags and the limit with which it was made; the queued entries; the permission events that were
--- read; the answers that weren't taken yet; the next numbers of an entry and of a descriptor
+-- the flags and the limit with which it was made; the queued entries; the permission events that
+-- were read; the answers that weren't taken yet; the next numbers of an entry and of a descriptor
 pub record ListenerState : Type 0 where
   pub flags : ℕ
   pub limit : ℕ
@@ -19,5 +19,12 @@ pub record ListenerState : Type 0 where
 -- a listener with nothing queued
 unfoldable pub new_listener : ℕ → ℕ → ListenerState
 new_listener flags limit = record {
-    flags = flags; limit = limit; queue = []; pending = []; answers = [];
-    next_entry = 1; next_fd = 0; closed = false }
+  flags = flags;
+  limit = limit;
+  queue = [];
+  pending = [];
+  answers = [];
+  next_entry = 1;
+  next_fd = 0;
+  closed = false;
+}

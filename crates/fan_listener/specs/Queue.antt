@@ -85,24 +85,35 @@ first_number test entries = option_map number_of (find test entries)
 unfoldable pub is_full : ListenerState → Bool
 is_full state = not (occurs state.flags unlimited_queue) && nat_le state.limit (length state.queue)
 
--- one more entry, queued last
+-- a queue with one more entry, the last
+abbrev pub with_last : List Entry → ℕ → Body → List Entry
+with_last entries number body = entries ++ (record { number = number; body = body }) ∷ []
+
+-- the next entry, queued last
 unfoldable pub queued : ListenerState → Body → ListenerState
 queued state body = record state {
-    queue = state.queue ++ (record { number = state.next_entry; body = body }) ∷ [];
-    next_entry = state.next_entry + 1 }
+  queue = with_last state.queue state.next_entry body;
+  next_entry = state.next_entry + 1;
+}
 
 -- at the limit: the overflow entry stands for the event, and is made where there is none
 abbrev pub put_lost : ListenerState → Option ℕ → Put × ListenerState
 put_lost state (Some entry) = (puts.Overflow entry, state)
 put_lost state None = (puts.Overflow state.next_entry, queued state Lost)
 
+-- the listener after a merge
+abbrev pub merged_state : ListenerState → Event → ListenerState
+merged_state state event = record state {
+  queue = change_first (takes event) (merged event) state.queue;
+}
+
 -- the first queued event with its key takes its bits; where there is none, it is queued last
 abbrev pub put_told : ListenerState → Event → Option ℕ → Put × ListenerState
-put_told state event (Some entry) =
-    (puts.Merged entry, record state { queue = change_first (takes event) (merged event) state.queue })
+put_told state event (Some entry) = (puts.Merged entry, merged_state state event)
 put_told state event None = (puts.Queued state.next_entry, queued state (Told event))
 
--- the first case that holds: closed, at the limit, merged, queued last; no permission event is merged
+-- the first case that holds: closed, at the limit, merged, queued last;
+-- a permission event is never merged
 unfoldable pub put : ListenerState → Event → Put × ListenerState
 put state event =
     if state.closed then (puts.Closed, state)

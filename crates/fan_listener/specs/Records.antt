@@ -1,7 +1,6 @@
 -- What a read gives, and what it leaves: fanotify(7).
-use Rattle.std.specs.Prelude.{ℕ, ℤ, pos, negsuc, ◌+◌, ◌-◌, nat_lt, nat_le, Bool, if◌then◌else◌, List, [], ◌∷◌, ◌++◌, length, drop, Result, Ok, Err}
+use Rattle.std.specs.Prelude.{ℕ, ℤ, pos, negsuc, ◌+◌, ◌-◌, nat_lt, nat_le, if◌then◌else◌, List, [], ◌∷◌, ◌++◌, length, drop, Result, Ok, Err}
 use Rattle.std.specs.Int.{to_le_bytes, cast_unsigned, w16, w32, w64}
-use Rattle.fan_listener.specs.declared.event.Event.{Event}
 use Rattle.fan_listener.specs.declared.queue.Body.{Body}
 use Rattle.fan_listener.specs.declared.queue.Body.TheVariants.{Told, Lost}
 use Rattle.fan_listener.specs.declared.queue.Entry.{Entry}
@@ -10,7 +9,8 @@ use Rattle.fan_listener.specs.declared.answers.ReadRefused.{ReadRefused}
 use Rattle.fan_listener.specs.declared.answers.ReadRefused.TheVariants as refusals
 use Rattle.fan_listener.specs.ListenerState.{ListenerState}
 
--- the bytes of a record: its length, version 3, a zero, the length of this part, mask, descriptor, process
+-- the bytes of a record: its length, version 3, a zero, the length of this part, the mask, the
+-- descriptor and the process
 unfoldable pub record_bytes : ℕ → ℤ → ℕ → List ℕ
 record_bytes mask fd pid =
     to_le_bytes w32 24 ++ (3 ∷ 0 ∷ []) ++ to_le_bytes w16 24 ++ to_le_bytes w64 mask
@@ -32,7 +32,8 @@ fd_after fd Lost = fd
 
 -- a permission event waits for its answer under its descriptor
 abbrev pub pending_of : ℕ → ℕ → Body → List Pending
-pending_of fd number (Told event) = if event.perm then (record { fd = fd; entry = number }) ∷ [] else []
+pending_of fd number (Told event) =
+    if event.perm then (record { fd = fd; entry = number }) ∷ [] else []
 pending_of fd number Lost = []
 
 -- the records of entries, the first of which has this descriptor
@@ -43,7 +44,8 @@ records fd (entry ∷ rest) = record_of fd entry.body ++ records (fd_after fd en
 -- the events of entries that wait for an answer once they were read
 abbrev pub pendings : ℕ → List Entry → List Pending
 pendings fd [] = []
-pendings fd (entry ∷ rest) = pending_of fd entry.number entry.body ++ pendings (fd_after fd entry.body) rest
+pendings fd (entry ∷ rest) =
+    pending_of fd entry.number entry.body ++ pendings (fd_after fd entry.body) rest
 
 -- the next descriptor after entries were read
 abbrev pub next_fd_after : ℕ → List Entry → ℕ
@@ -59,16 +61,21 @@ front_within size (entry ∷ rest) =
 -- the entries of a front leave the queue
 unfoldable pub read_front : ListenerState → List Entry → ListenerState
 read_front state front = record state {
-    queue = drop (length front) state.queue;
-    pending = state.pending ++ pendings state.next_fd front;
-    next_fd = next_fd_after state.next_fd front }
+  queue = drop (length front) state.queue;
+  pending = state.pending ++ pendings state.next_fd front;
+  next_fd = next_fd_after state.next_fd front;
+}
+
+-- the bytes of a front, and the listener without it
+abbrev pub front_read : ListenerState → List Entry → List ℕ × ListenerState
+front_read state front = (records state.next_fd front, read_front state front)
 
 -- a read with these queued entries
 abbrev pub read_queue : ListenerState → ℕ → List Entry → Result (List ℕ × ListenerState) ReadRefused
 read_queue state size [] = Err refusals.Again
 read_queue state size (first ∷ rest) =
     if nat_lt size record_len then Err refusals.Small
-    else Ok (records state.next_fd (front_within size (first ∷ rest)), read_front state (front_within size (first ∷ rest)))
+    else Ok (front_read state (front_within size (first ∷ rest)))
 
 -- a read of at most this many bytes: the bytes and the listener after it, or why there is none
 unfoldable pub read_of : ListenerState → ℕ → Result (List ℕ × ListenerState) ReadRefused

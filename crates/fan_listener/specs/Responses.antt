@@ -32,7 +32,8 @@ unfoldable pub verdict : ℕ → Option Answer
 verdict value =
     if value == 1 then Some answers.Allowed else if value == 2 then Some answers.Denied else None
 
--- the entry that waits under a descriptor, which is a signed number: none waits under a negative one
+-- the entry that waits under a descriptor; this is a signed number, and none waits under a
+-- negative one
 unfoldable pub waiting_under : ℕ → List Pending → Option ℕ
 waiting_under fd pending =
     if nat_lt fd (2 ^ 31) then option_map entry_of (find (is_under fd) pending) else None
@@ -40,26 +41,31 @@ waiting_under fd pending =
 -- the event that waited has its answer
 abbrev pub answered_state : ListenerState → ℕ → ℕ → Answer → ListenerState
 answered_state state fd entry answer = record state {
-    pending = without_first (is_under fd) state.pending;
-    answers = state.answers ++ (record { entry = entry; answer = answer }) ∷ [] }
+  pending = without_first (is_under fd) state.pending;
+  answers = state.answers ++ (record { entry = entry; answer = answer }) ∷ [];
+}
+
+-- the entry that was answered and the listener after it, or why there is none
+abbrev pub Outcome : Type 0
+Outcome = Result (Answered × ListenerState) WriteRefused
 
 -- an answer to what waits under a descriptor
-abbrev pub answered : ListenerState → ℕ → Answer → Option ℕ → Result (Answered × ListenerState) WriteRefused
+abbrev pub answered : ListenerState → ℕ → Answer → Option ℕ → Outcome
 answered state fd answer None = Err refusals.NotPending
 answered state fd answer (Some entry) =
     Ok (record { entry = entry }, answered_state state fd entry answer)
 
 -- a response in form, with a descriptor and what its value stands for
-abbrev pub responded : ListenerState → ℕ → Option Answer → Result (Answered × ListenerState) WriteRefused
+abbrev pub responded : ListenerState → ℕ → Option Answer → Outcome
 responded state fd None = Err refusals.Value
 responded state fd (Some answer) = answered state fd answer (waiting_under fd state.pending)
 
--- a response: the entry that was answered and the listener after it, or why there is none
-unfoldable pub written : ListenerState → List ℕ → Result (Answered × ListenerState) WriteRefused
+-- a response
+unfoldable pub written : ListenerState → List ℕ → Outcome
 written state bytes =
     if state.closed then Err refusals.Closed
     else if length bytes == 8 then
-        responded state (from_le_bytes w32 (take 4 bytes)) (verdict (from_le_bytes w32 (drop 4 bytes)))
+    responded state (from_le_bytes w32 (take 4 bytes)) (verdict (from_le_bytes w32 (drop 4 bytes)))
     else Err refusals.Length
 
 -- the answer that was given; without one a closed listener answers Closed
@@ -69,9 +75,10 @@ answer_or_closed closed None = if closed then answers.Closed else answers.Waitin
 
 -- the answer to the permission event of an entry, and the listener after it was taken
 unfoldable pub answer_of : ListenerState → ℕ → Answer × ListenerState
-answer_of state entry =
-    (answer_or_closed state.closed (option_map answer_in (find (is_to entry) state.answers)),
-     record state { answers = without_first (is_to entry) state.answers })
+answer_of state entry = (
+  answer_or_closed state.closed (option_map answer_in (find (is_to entry) state.answers)),
+  record state { answers = without_first (is_to entry) state.answers },
+)
 
 -- closing frees the queue; events without an answer wait no more, and answers that were given stay
 unfoldable pub closed_of : ListenerState → ListenerState

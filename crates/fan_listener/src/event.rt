@@ -6,8 +6,11 @@ ghost use Rattle.fan_listener.specs.Queue.{same_key, same_target, same_number};
 #[derive(Clone, Copy, Debug, PartialEq, Eq)]
 pub enum Target {
     /// For a group that gets descriptors: the numbers of the mount and of the inode.
-    Fd { mount: u32, inode: u32 },
-    /// For a group that gets handles: the numbers of the filesystem, of the object and of the directory.
+    Fd {
+        mount: u32,
+        inode: u32,
+    },
+    /// For a group that gets handles: the numbers of the filesystem, the object and the directory.
     Handle {
         fs: u32,
         object: Option<u32>,

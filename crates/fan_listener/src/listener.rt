@@ -1,5 +1,5 @@
 // The listener of a group that gets descriptors: fanotify(7).
-ghost use Rattle.std.specs.Prelude.{◌≡◌, ◌≢◌, ℕ, ◌+◌, ◌^◌, ◌<◌, ◌≤◌, true, false, Ok, Err, IsOk, IfOk, IfErr, OnOk, OnErr};
+ghost use Rattle.std.specs.Prelude.{◌≡◌, ◌≢◌, ℕ, ◌+◌, ◌-◌, ◌^◌, ◌<◌, ◌≤◌, true, false, Ok, Err, IsOk, IfOk, IfErr, OnOk, OnErr};
 ghost use Rattle.fan_listener.specs.ListenerState.{new_listener};
 ghost use Rattle.fan_listener.specs.Queue.{put, put_lost, is_full, is_lost, first_number};
 ghost use Rattle.fan_listener.specs.Records.{read_of, read_front, records, front_within};
@@ -40,14 +40,15 @@ impl Model for Listener {
     ghost Value = { ListenerState };
 
     ghost view = { λ l. record {
-        flags = l.init.bits;
-        limit = l.limit;
-        queue = l.queue.items;
-        pending = l.pending.items;
-        answers = l.answers.items;
-        next_entry = l.next_entry;
-        next_fd = l.next_fd;
-        closed = l.closed } };
+      flags = l.init.bits;
+      limit = l.limit;
+      queue = l.queue.items;
+      pending = l.pending.items;
+      answers = l.answers.items;
+      next_entry = l.next_entry;
+      next_fd = l.next_fd;
+      closed = l.closed;
+    } };
 
     ghost invariant = { λ l.
         length l.answers.items + length l.pending.items + count_by asks l.queue.items
@@ -55,8 +56,8 @@ impl Model for Listener {
 }
 
 impl Listener {
-    /// A listener with nothing queued. Its queue has at most `limit` entries, the overflow entry among
-    /// them, from 1 to 16,384; with FAN_UNLIMITED_QUEUE it has no limit.
+    /// A listener with nothing queued. At `limit` entries, from 1 to 16,384, the queue is full and
+    /// events are lost; with FAN_UNLIMITED_QUEUE it has no limit.
     #[tactic(auto, unfolding(crate::specs::ListenerState::new_listener))]
     pub fn new(alloc: Global, init: InitWords, limit: u32) -> Result<Listener, NoMemory>
         ensures { IfOk result (λ made. made ≡ new_listener init.bits limit) }
@@ -90,7 +91,7 @@ impl Listener {
 
     /// How many entries it made so far.
     pub fn entries_made(&self) -> u64
-        ensures { self.now.next_entry ≤ result + 1 }
+        ensures { result ≡ self.now.next_entry - 1 }
     {
         self.next_entry.saturating_sub(1)
     }
@@ -102,8 +103,8 @@ impl Listener {
         self.next_fd
     }
 
-    /// Puts a permission event on the queue. It is never merged. Memory is found here for its answer too.
-    /// `NoMemory` changes nothing.
+    /// Puts a permission event on the queue. It is never merged. Memory is found here for its answer
+    /// too. `NoMemory` changes nothing.
     #[tactic(auto, unfolding(crate::specs::Queue::put, crate::specs::Queue::queued))]
     pub fn ask(&mut self, event: Event) -> Result<Put, NoMemory>
         requires permission { event.perm ≡ true }
@@ -127,8 +128,8 @@ impl Listener {
         Ok(Put::Queued { entry })
     }
 
-    /// Puts an event that is no permission event on the queue, or merges it into the one with its key.
-    /// `NoMemory` changes nothing.
+    /// Puts an event that is no permission event on the queue, or merges it into the one with its
+    /// key. `NoMemory` changes nothing.
     #[tactic(auto, unfolding(crate::specs::Queue::put, crate::specs::Queue::queued))]
     pub fn tell(&mut self, event: Event) -> Result<Put, NoMemory>
         requires notice { event.perm ≡ false }
@@ -167,7 +168,8 @@ impl Listener {
     #[tactic(auto, unfolding(crate::specs::Queue::queued))]
     fn lose(&mut self) -> Result<Put, NoMemory>
         requires { self.old.next_entry ≤ 2 ^ 31 }
-        ensures ok { IfOk result (λ outcome. (outcome, self.new) ≡ put_lost self.old (first_number is_lost self.old.queue)) }
+        ensures ok { IfOk result (λ outcome.
+            (outcome, self.new) ≡ put_lost self.old (first_number is_lost self.old.queue)) }
         ensures never_merged { (entry : ℕ) → result ≢ Ok (Put.Merged entry) }
         ensures err { OnErr result (self.new ≡ self.old) }
         ensures moved { Makes 1 self.old self.new }
@@ -181,15 +183,16 @@ impl Listener {
         Ok(Put::Overflow { entry })
     }
 
-    /// The records of the longest front of the queue that fits into `size` bytes; they leave the queue,
-    /// and permission events among them wait for an answer. `Closed`, `Again` where nothing is queued,
-    /// and `Small` where the first record doesn't fit come in this order, and `NoMemory` after them.
-    /// A refusal changes nothing.
+    /// The records of the longest front of the queue that fits into `size` bytes. They leave the
+    /// queue, and permission events among them wait for an answer. `Closed`, `Again` where nothing is
+    /// queued and `Small` where the first record doesn't fit come in this order, and `NoMemory` after
+    /// them. A refusal changes nothing.
     #[tactic(auto, unfolding(crate::specs::Records::read_of))]
     pub fn read(&mut self, size: u32) -> Result<Vec<u8>, ReadRefused>
         requires { self.old.next_fd < 2 ^ 30 }
         ensures ok { IfOk result (λ bytes. read_of self.old size ≡ Ok (bytes.items, self.new)) }
-        ensures refused { IfErr result (λ why. why ≢ ReadRefused.NoMemory → read_of self.old size ≡ Err why) }
+        ensures refused { IfErr result (λ why.
+            why ≢ ReadRefused.NoMemory → read_of self.old size ≡ Err why) }
         ensures memory { result ≡ Err ReadRefused.NoMemory → IsOk (read_of self.old size) }
         ensures err { OnErr result (self.new ≡ self.old) }
         ensures moved { Makes 0 self.old self.new }
@@ -213,8 +216,10 @@ impl Listener {
     #[tactic(auto, unfolding(crate::specs::Records::read_front))]
     fn read_front(&mut self, size: u32) -> Result<Vec<u8>, NoMemory>
         requires { self.old.next_fd < 2 ^ 30 }
-        ensures bytes { IfOk result (λ bytes. bytes.items ≡ records self.old.next_fd (front_within size self.old.queue)) }
-        ensures ok { OnOk result (self.new ≡ read_front self.old (front_within size self.old.queue)) }
+        ensures bytes { let front = front_within size self.old.queue in
+            IfOk result (λ bytes. bytes.items ≡ records self.old.next_fd front) }
+        ensures ok { let front = front_within size self.old.queue in
+            OnOk result (self.new ≡ read_front self.old front) }
         ensures err { OnErr result (self.new ≡ self.old) }
     {
         let count = front_len(&self.queue, size);
@@ -225,11 +230,12 @@ impl Listener {
         Ok(taken.bytes)
     }
 
-    /// Takes a response of eight bytes: the descriptor, and 1 to allow or 2 to deny. `Closed`, `Length`,
-    /// `Value` and `NotPending` come in this order, and change nothing. Takes no memory.
+    /// Takes a response of eight bytes: the descriptor, and 1 to allow or 2 to deny. `Closed`,
+    /// `Length`, `Value` and `NotPending` come in this order, and change nothing. Takes no memory.
     #[tactic(auto, unfolding(crate::specs::Responses::written))]
     pub fn write(&mut self, bytes: &[u8]) -> Result<Answered, WriteRefused>
-        ensures ok { IfOk result (λ answered. written self.old bytes.now ≡ Ok (answered, self.new)) }
+        ensures ok { IfOk result (λ answered.
+            written self.old bytes.now ≡ Ok (answered, self.new)) }
         ensures refused { IfErr result (λ why. written self.old bytes.now ≡ Err why) }
         ensures err { OnErr result (self.new ≡ self.old) }
         ensures moved { Makes 0 self.old self.new }
@@ -250,8 +256,8 @@ impl Listener {
         Ok(Answered { entry })
     }
 
-    /// The answer to the permission event of an entry. An answer other than `Waiting` is taken by this
-    /// call. Without an answer it is `Closed` where the listener is, else `Waiting`. Takes no memory.
+    /// The answer to the permission event of an entry. An answer other than `Waiting` is taken by
+    /// this call. Without one it is `Closed` where the listener is, else `Waiting`. Takes no memory.
     #[tactic(auto, unfolding(crate::specs::Responses::answer_of))]
     pub fn answer_of(&mut self, entry: u64) -> Answer
         ensures answer { (result, self.new) ≡ answer_of self.old entry }
@@ -264,8 +270,8 @@ impl Listener {
         }
     }
 
-    /// Closes the listener and frees its queue. Events without an answer wait no more, and an answer that
-    /// was given stays. Takes no memory.
+    /// Closes the listener and frees its queue. Events without an answer wait no more, and an answer
+    /// that was given stays. Takes no memory.
     #[tactic(auto, unfolding(crate::specs::Responses::closed_of))]
     pub fn close(&mut self)
         ensures closed { self.new ≡ closed_of self.old }

@@ -1,6 +1,6 @@
 // The queue of a group: entries, merging and the overflow entry.
-ghost use Rattle.std.specs.Prelude.{◌≡◌, ◌++◌, ◌∷◌, [], IfNone, OnOk, OnErr, count_by, position};
-ghost use Rattle.fan_listener.specs.Queue.{takes, asks, is_lost, first_number, merged, with_bits};
+ghost use Rattle.std.specs.Prelude.{◌≡◌, IfNone, OnOk, OnErr, count_by, position};
+ghost use Rattle.fan_listener.specs.Queue.{takes, asks, is_lost, first_number, merged, with_bits, with_last};
 ghost use Rattle.fan_listener.specs.First.{change_first};
 
 use super::event::{Event, same_key};
@@ -62,7 +62,10 @@ fn is_lost(entry: &Entry) -> bool
 pub(crate) fn lost_number(entries: &[Entry]) -> Option<u64>
     ensures { result ≡ first_number is_lost entries.now }
 {
-    entries.iter().find(|entry| is_lost(entry)).map(|entry| entry.number)
+    entries
+        .iter()
+        .find(|entry| is_lost(entry))
+        .map(|entry| entry.number)
 }
 
 // The place of the first entry that takes the bits of an event.
@@ -104,7 +107,7 @@ fn with_bits(body: Body, bits: u32) -> Body
 
 // Queues an entry last.
 pub(crate) fn push_entry(entries: &mut Vec<Entry>, number: u64, body: Body) -> Result<(), NoMemory>
-    ensures ok { OnOk result (entries.new.items ≡ entries.old.items ++ (record { number = number; body = body }) ∷ []) }
+    ensures ok { OnOk result (entries.new.items ≡ with_last entries.old.items number body) }
     ensures err { OnErr result (entries.new.items ≡ entries.old.items) }
 {
     entries.push(Entry { number, body })?;

@@ -9,9 +9,13 @@ use std::alloc::Global;
 
 // The bytes of a record.
 pub(crate) const RECORD_LEN: u32 = 24;
+
 const METADATA_LEN: u16 = 24;
+
 const VERSION: u8 = 3;
+
 const Q_OVERFLOW: u64 = 0x4000;
+
 const NOFD: i32 = -1;
 
 // What a read of some entries gives.
@@ -33,7 +37,11 @@ pub(crate) fn front_len(entries: &[Entry], size: u32) -> usize
 }
 
 // The records of entries, the first of which gets this descriptor, and what waits afterwards.
-pub(crate) fn take_entries(alloc: Global, entries: &[Entry], first_fd: u32) -> Result<Taken, NoMemory>
+pub(crate) fn take_entries(
+    alloc: Global,
+    entries: &[Entry],
+    first_fd: u32,
+) -> Result<Taken, NoMemory>
     requires { first_fd + length entries.now < 2 ^ 31 }
     ensures bytes { IfOk result (λ taken. taken.bytes.items ≡ records first_fd entries.now) }
     ensures pending { IfOk result (λ taken. taken.pending.items ≡ pendings first_fd entries.now) }

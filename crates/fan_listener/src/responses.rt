@@ -1,4 +1,4 @@
-// Responses in their eight bytes, and the places of what waits and of what was answered: fanotify(7).
+// Responses in their eight bytes, what waits for one, and what was answered: fanotify(7).
 ghost use Rattle.std.specs.Prelude.{◌≡◌, ◌+◌, ◌≤◌, length, find, position, option_map, take, drop, IfNone, OnSome, vec_capacity};
 ghost use Rattle.std.specs.Int.{from_le_bytes, w32};
 ghost use Rattle.fan_listener.specs.Responses.{verdict, is_under, is_to, answer_in, waiting_under};
@@ -7,7 +7,9 @@ ghost use Rattle.fan_listener.specs.First.{without_first};
 use super::answers::{Answer, Kept, Pending};
 
 const ALLOW: u32 = 1;
+
 const DENY: u32 = 2;
+
 const LIMIT_OF_FDS: u32 = 0x8000_0000;
 
 // The answer that a response's value stands for.
@@ -52,11 +54,13 @@ fn place_to(answers: &[Kept], entry: u64) -> Option<usize>
     answers.iter().position(|kept| kept.entry == entry)
 }
 
-// Takes out the event that waits under a descriptor, which is a signed number, and answers its entry.
+// Takes out the event that waits under a descriptor, and answers its entry. A descriptor is a signed
+// number, so none waits from 2^31 on.
 #[tactic(auto, unfolding(crate::specs::Responses::waiting_under))]
 pub(crate) fn take_waiting(pending: &mut Vec<Pending>, fd: u32) -> Option<u64>
     ensures entry { result ≡ waiting_under fd pending.old.items }
-    ensures taken { OnSome result (pending.new.items ≡ without_first (is_under fd) pending.old.items) }
+    ensures taken { OnSome result
+        (pending.new.items ≡ without_first (is_under fd) pending.old.items) }
     ensures length { OnSome result (length pending.new.items + 1 ≡ length pending.old.items) }
     ensures none { IfNone result (pending.new.items ≡ pending.old.items) }
 {

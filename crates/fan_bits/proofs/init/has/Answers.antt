@@ -1,4 +1,4 @@
-use Rattle.std.proofs.Common.{◌≡◌, ◌∙◌, ◌^◌, ℕ}
+use Rattle.std.proofs.Common.{◌∙◌}
 use Rattle.fan_bits.proofs.Masks.{mask_occurs}
 use Rattle.fan_bits.proofs.init.has.Goals as goal
 

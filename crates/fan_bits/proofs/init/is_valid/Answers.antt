@@ -1,5 +1,5 @@
-use Rattle.std.proofs.Common.{◌≡◌, ◌∙◌, ◌&&◌, sym, ap, rules, true, false}
-use Rattle.fan_bits.specs.Words.{is_init_flags, has_only_flags, agree}
+use Rattle.std.proofs.Common.{◌∙◌, ◌&&◌, ap}
+use Rattle.fan_bits.specs.Words.{is_init_flags, agree}
 use Rattle.fan_bits.proofs.init.is_valid.Goals as goal
 
 pub returns-in-Some : goal.returns-in-Some

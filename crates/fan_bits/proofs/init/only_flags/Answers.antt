@@ -1,4 +1,4 @@
-use Rattle.std.proofs.Common.{◌≡◌, ◌∙◌, ◌==◌, ℕ, ◌^◌, ◌<◌, eq-eqb, eqb-true, is_some, arith, rules}
+use Rattle.std.proofs.Common.{◌∙◌, ◌==◌, eq-eqb, eqb-true, is_some, rules}
 use Rattle.std.specs.Int.RustNames.{bit_and}
 use Rattle.bitflags.specs.Sets.{known_from}
 use Rattle.fan_bits.proofs.Masks.{mask_has_only_flags, same_tests}

@@ -1,4 +1,4 @@
-use Rattle.std.proofs.Common.{◌≡◌, ◌∙◌, sym, ap, option_map, count_by}
+use Rattle.std.proofs.Common.{◌∙◌, sym, ap, option_map, count_by}
 use Rattle.fan_listener.specs.Queue.{takes, merged, number_of, asks}
 use Rattle.fan_listener.proofs.FirstLemmas.{first_from_position, find_first, change_first_at, find_none, change_first_none}
 use Rattle.fan_listener.proofs.QueueLemmas.{waiting-merged}

@@ -1,4 +1,4 @@
-use Rattle.std.proofs.Common.{◌≡◌, ◌/◌, arith}
+use Rattle.std.proofs.Common.{◌/◌, arith}
 use Rattle.fan_listener.proofs.RecordLemmas.{front_by_count}
 use Rattle.fan_listener.proofs.records.front_len.Goals as goal
 

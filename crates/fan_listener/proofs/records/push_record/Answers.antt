@@ -1,4 +1,4 @@
-use Rattle.std.proofs.Common.{◌≡◌, ◌∙◌, [], ◌∷◌, ◌++◌, ap}
+use Rattle.std.proofs.Common.{◌∙◌, [], ◌∷◌, ◌++◌, ap}
 use Rattle.std.specs.Int.{to_le_bytes, cast_unsigned, w32}
 use Rattle.std.proofs.lemmas.Int.{to_z-of_z}
 use Rattle.fan_listener.specs.Records.{record_bytes}
@@ -10,7 +10,7 @@ unfolding record_bytes
 returns c =
     let same_fd = to_z-of_z w32 c.args.fd c.ranges.fd in
     six_pieces c.args.out.now.items c.to_le_bytes.result (3 ∷ 0 ∷ []) c.to_le_bytes-2.result c.to_le_bytes-3.result c.to_le_bytes-4.result c.to_le_bytes-5.result
-      c.extend_from_slice.new.self.items c.extend_from_slice-2.new.self.items c.extend_from_slice-3.new.self.items c.extend_from_slice-4.new.self.items c.extend_from_slice-5.new.self.items c.extend_from_slice-6.new.self.items
-      c.in_ok-extend_from_slice.ensures.items c.in_ok-extend_from_slice-2.ensures.items c.in_ok-extend_from_slice-3.ensures.items c.in_ok-extend_from_slice-4.ensures.items c.in_ok-extend_from_slice-5.ensures.items c.in_ok-extend_from_slice-6.ensures.items
+    c.extend_from_slice.new.self.items c.extend_from_slice-2.new.self.items c.extend_from_slice-3.new.self.items c.extend_from_slice-4.new.self.items c.extend_from_slice-5.new.self.items c.extend_from_slice-6.new.self.items
+    c.in_ok-extend_from_slice.ensures.items c.in_ok-extend_from_slice-2.ensures.items c.in_ok-extend_from_slice-3.ensures.items c.in_ok-extend_from_slice-4.ensures.items c.in_ok-extend_from_slice-5.ensures.items c.in_ok-extend_from_slice-6.ensures.items
     ∙ ap (λ bytes. c.args.out.now.items ++ bytes)
-        (λ i. c.to_le_bytes.ensures i ++ (3 ∷ 0 ∷ []) ++ c.to_le_bytes-2.ensures i ++ c.to_le_bytes-3.ensures i ++ (c.to_le_bytes-4.ensures ∙ ap (λ fd. to_le_bytes w32 (cast_unsigned w32 fd)) same_fd) i ++ c.to_le_bytes-5.ensures i)
+    (λ i. c.to_le_bytes.ensures i ++ (3 ∷ 0 ∷ []) ++ c.to_le_bytes-2.ensures i ++ c.to_le_bytes-3.ensures i ++ (c.to_le_bytes-4.ensures ∙ ap (λ fd. to_le_bytes w32 (cast_unsigned w32 fd)) same_fd) i ++ c.to_le_bytes-5.ensures i)

@@ -8,4 +8,5 @@ invariant-loop-entry l = record {
   bytes : l.bytes.items ++ records l.fd (drop l.entry-index l.entries) ≡ records l.first_fd l.entries;
   pending : l.pending.items ++ pendings l.fd (drop l.entry-index l.entries) ≡ pendings l.first_fd l.entries;
   next : next_fd_after l.fd (drop l.entry-index l.entries) ≡ next_fd_after l.first_fd l.entries;
-  few : l.fd ≤ l.first_fd + l.entry-index; }
+  few : l.fd ≤ l.first_fd + l.entry-index;
+}

@@ -1,4 +1,4 @@
-use Rattle.std.proofs.Common.{◌≡◌, ◌∙◌, sym, ap, option_map, position}
+use Rattle.std.proofs.Common.{◌∙◌, sym, ap, option_map, position}
 use Rattle.fan_listener.specs.Responses.{is_to, answer_in}
 use Rattle.fan_listener.proofs.FirstLemmas.{found_at, removed_at, find_none, without_first_none}
 use Rattle.fan_listener.proofs.responses.take_answer.Goals as goal

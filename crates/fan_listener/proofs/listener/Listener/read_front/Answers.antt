@@ -1,4 +1,4 @@
-use Rattle.std.proofs.Common.{◌≡◌, ◌∙◌, ◌++◌, ◌≤◌, rules, arith, length, vec_capacity}
+use Rattle.std.proofs.Common.{length, vec_capacity}
 use Rattle.fan_listener.proofs.RecordLemmas.{room_after_read}
 use Rattle.fan_listener.proofs.listener.Listener.read_front.Goals as goal
 
