@@ -9,3 +9,4 @@ pub mod PlayLemmas
 pub mod SplitLemmas
 pub mod TranscriptLemmas
 pub mod CommandLemmas
+pub mod CompleteLemmas

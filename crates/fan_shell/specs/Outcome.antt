@@ -1,5 +1,5 @@
 -- What the commands of the program are, and what each writes.
-use Rattle.std.specs.Prelude.{◌≡◌, ℕ, List, [], ◌∷◌, ◌++◌, Option, codes}
+use Rattle.std.specs.Prelude.{◌≡◌, ◌⊎◌, ℕ, List, [], ◌∷◌, ◌++◌, Option, codes}
 use Rattle.std.specs.Io.KnownBytes.{Appends}
 use Rattle.fan_io.specs.Bytes.{AppendsFront}
 use Rattle.fan_shell.specs.declared.status.Status.{Status}
@@ -27,6 +27,10 @@ pub record Tells (old new : Option (List ℕ)) (bytes : List ℕ) (status : Stat
 -- a front of the transcript of the bytes was put, and nothing else
 abbrev pub TellsFront : Option (List ℕ) → Option (List ℕ) → List ℕ → Type 0
 TellsFront old new bytes = (text : List ℕ) (status : Status) → Transcript bytes text status → AppendsFront old new text
+
+-- the whole transcript was put, with status 0, or memory ran out
+abbrev pub Completes : Option (List ℕ) → Option (List ℕ) → List ℕ → Status → Type 0
+Completes old new bytes status = ((status ≡ statuses.Ok) × Tells old new bytes status) ⊎ (status ≡ statuses.NoMemory)
 
 -- what a script may end with
 abbrev pub EndsScript : Status → Type 0

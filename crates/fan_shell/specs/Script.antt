@@ -57,3 +57,12 @@ pub record Transcript (bytes text : List ℕ) (status : Status) : Type 0 where
   pub lines : List (Option Line)
   pub taken : AllTaken (lines_of bytes) lines
   pub said : printed opening_world 1 lines ≡ (text, status)
+
+-- each of the pieces is a line
+abbrev pub AreLines : List (List ℕ) → Type 0
+AreLines [] = Unit {0}
+AreLines (bytes ∷ more) = ((line : Line) × LineOf bytes line) × AreLines more
+
+-- no line of the script is a bad one
+abbrev pub IsValid : List ℕ → Type 0
+IsValid bytes = AreLines (lines_of bytes)

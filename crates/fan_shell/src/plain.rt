@@ -3,7 +3,8 @@ ghost use Rattle.std.specs.Prelude.{◌≡◌, ◌≢◌, ◌⊎◌, ◌↔◌, 
 ghost use Rattle.std.specs.Io.KnownBytes.{Appends, IsAtEnd, Keeps};
 ghost use Rattle.fan_io.specs.Bytes.{AppendsFront, GaveAtMost, GaveMore};
 ghost use Rattle.fan_io.specs.Faults.{Rose};
-ghost use Rattle.fan_shell.specs.Outcome.{IsScript, most_script, usage_line, Tells, TellsFront, EndsScript, EndsUsage};
+ghost use Rattle.fan_shell.specs.Outcome.{IsScript, most_script, usage_line, Tells, TellsFront, Completes, EndsScript, EndsUsage};
+ghost use Rattle.fan_shell.specs.Script.{IsValid};
 ghost use Rattle.fan_shell.specs.Status.{IsTold};
 
 use crate::script::write_transcript;
@@ -59,6 +60,10 @@ fn run_script<S: Source, K: Sink>(alloc: Global, source: &mut S, sink: &mut K) -
         → Rose (K.faults sink.old) (K.faults sink.new) }
     ensures unread { (result ≡ Status.ReadFault) ⊎ (result ≡ Status.TooLong) → sink.new ≡ sink.old }
     ensures others { EndsScript result }
+    ensures complete { (Rose (S.faults source.old) (S.faults source.new) → ⊥)
+        → (Rose (K.faults sink.old) (K.faults sink.new) → ⊥)
+        → IfSome (S.left source.old) (λ bytes. length bytes ≤ most_script → IsValid bytes
+        → Completes (K.held sink.old) (K.held sink.new) bytes result) }
 {
     match take_all(alloc, source, MOST_SCRIPT) {
         Ok(script) => write_transcript(alloc, &script, sink),
@@ -87,6 +92,13 @@ pub fn run_plain<S: Source, K: Sink>(
         → IfSome (S.left source.old) (λ bytes. TellsFront (K.held sink.old) (K.held sink.new) bytes) }
     ensures script { IsScript (map (λ word. string_bytes word) words.now) → EndsScript result }
     ensures unread { (result ≡ Status.ReadFault) ⊎ (result ≡ Status.TooLong) → sink.new ≡ sink.old }
+
+    // A script of good lines within the limit is answered to its end, where neither end fails.
+    ensures complete { IsScript (map (λ word. string_bytes word) words.now)
+        → (Rose (S.faults source.old) (S.faults source.new) → ⊥)
+        → (Rose (K.faults sink.old) (K.faults sink.new) → ⊥)
+        → IfSome (S.left source.old) (λ bytes. length bytes ≤ most_script → IsValid bytes
+        → Completes (K.held sink.old) (K.held sink.new) bytes result) }
 
     // When a fault comes, and when too many bytes.
     ensures read_fault { result ≡ Status.ReadFault

@@ -1,0 +1,36 @@
+-- A script of good lines is answered to its end.
+use Rattle.std.proofs.Common.{◌≡◌, ◌⊎◌, ℕ, ◌+◌, ◌<◌, ◌≤◌, List, [], ◌∷◌, ◌++◌, Option, Some, None, length, refl, sym, ap, ◌∙◌, inl, inr, arith, length-append}
+use Rattle.std.specs.Prelude.{IfSome}
+use Rattle.std.specs.Io.KnownBytes.{Consumes}
+use Rattle.fan_io.specs.Bytes.{GaveMore}
+use Rattle.fan_world.specs.World.{WorldState, opening_world}
+use Rattle.fan_shell.specs.declared.line.Line.{Line}
+use Rattle.fan_shell.specs.declared.status.Status.{Status}
+use Rattle.fan_shell.specs.declared.status.Status.TheVariants as statuses
+use Rattle.fan_shell.specs.Outcome.{Tells, Completes}
+use Rattle.fan_shell.specs.Playing.{play}
+use Rattle.fan_shell.specs.Script.{Taken, AllTaken, AreLines, IsValid, Transcript, printed, answered, lines_of}
+use Rattle.fan_shell.proofs.TranscriptLemmas.{transcript_of, tells_played}
+
+-- good lines end with status 0
+all_good : (pieces : List (List ℕ)) (lines : List (Option Line)) (world : WorldState) (number : ℕ) → AllTaken pieces lines → AreLines pieces → (printed world number lines).1 ≡ statuses.Ok
+all_good [] [] world number taken good = refl
+all_good [] (line ∷ lines) world number taken good = absurd taken
+all_good (bytes ∷ more) [] world number taken good = absurd taken
+all_good (bytes ∷ more) (None ∷ lines) world number taken good = absurd (taken.0 good.0.0 good.0.1)
+all_good (bytes ∷ more) (Some line ∷ lines) world number taken good =
+    all_good more lines (answered world line).1 (number + 1) taken.1 good.1
+
+-- playing a script of good lines ends with status 0
+pub plays_well : (script : List ℕ) → IsValid script → (play script).1 ≡ statuses.Ok
+plays_well script valid =
+    let transcript = transcript_of script in
+    ap (λ (r : List ℕ × Status). r.1) (sym transcript.said) ∙ all_good (lines_of script) transcript.lines opening_world 1 transcript.taken valid
+
+-- a source that had no more bytes than the limit gave no more
+pub within_limit : (old new : Option (List ℕ)) (limit : ℕ) → GaveMore old new limit → IfSome old (λ bytes. length bytes ≤ limit → ⊥)
+within_limit None new limit gave = tt
+within_limit (Some bytes) None limit gave = absurd gave.consumed
+within_limit (Some bytes) (Some left) limit gave = λ most.
+    let whole : bytes ≡ gave.given ++ left = gave.consumed in
+    omega (arith, gave.more, ap length whole, length-append gave.given left)
