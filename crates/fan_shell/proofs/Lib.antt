@@ -2,6 +2,8 @@ pub mod OptionLemmas
 pub mod WordLemmas
 pub mod NumberLemmas
 pub mod PathLemmas
+pub mod FlagLemmas
+pub mod HexLemmas
 pub mod FormLemmas
 pub mod LineLemmas
 pub mod RunLemmas

@@ -1,11 +1,12 @@
 // The forms of a line: a name, and the fields behind it.
-ghost use Rattle.fan_shell.specs.Reading.{Gives, mkfile_at, init_at, mark_at, begin_at, run_at, read_at, form_at};
+ghost use Rattle.fan_shell.specs.Reading.{Gives, mkfile_at, flags_at, init_at, mask_at, mark_at, begin_at, step_at, run_at, read_at, write_at, close_at, form_at};
 
+use crate::hex::response;
 use crate::line::{Line, LineRefused};
 use crate::numbers::{number, split_number};
 use crate::paths::path;
-use crate::words::skip_word;
-use fan_world::Step;
+use crate::words::{skip_word, split_word};
+use fan_world::{MarkMask, Step};
 use std::alloc::Global;
 
 // The greatest number of a process or a thread.
@@ -22,14 +23,58 @@ fn mkfile(alloc: Global, fields: &[u8]) -> Result<Line, LineRefused>
     Ok(Line::One(Step::MkFile { path }))
 }
 
+// The flags of a group: none, FAN_CLASS_CONTENT, FAN_CLASS_PRE_CONTENT, or both.
+#[tactic(auto, unfolding(crate::specs::Reading::flags_at))]
+fn flags(word: &[u8]) -> Result<u32, LineRefused>
+    ensures { Gives (λ n. n) result (flags_at word.now) }
+{
+    if word == b"0".as_slice() {
+        return Ok(0);
+    }
+    if word == b"4".as_slice() {
+        return Ok(4);
+    }
+    if word == b"8".as_slice() {
+        return Ok(8);
+    }
+    if word == b"c".as_slice() {
+        return Ok(12);
+    }
+    Err(LineRefused::BadLine)
+}
+
 #[tactic(auto, unfolding(crate::specs::Reading::init_at))]
 fn init(fields: &[u8]) -> Result<Line, LineRefused>
     ensures { Gives (λ x. x) result (init_at fields.now) }
 {
-    if fields != b"0".as_slice() {
-        return Err(LineRefused::BadLine);
+    let flags = flags(fields)?;
+    Ok(Line::One(Step::Init { flags }))
+}
+
+// The mask of a mark: FAN_OPEN, FAN_OPEN_PERM, or both.
+#[tactic(auto, unfolding(crate::specs::Reading::mask_at))]
+fn mask(word: &[u8]) -> Result<MarkMask, LineRefused>
+    ensures { Gives (λ x. x) result (mask_at word.now) }
+{
+    if word == b"20".as_slice() {
+        return Ok(MarkMask {
+            opened: true,
+            open_perm: false,
+        });
     }
-    Ok(Line::One(Step::Init))
+    if word == b"10000".as_slice() {
+        return Ok(MarkMask {
+            opened: false,
+            open_perm: true,
+        });
+    }
+    if word == b"10020".as_slice() {
+        return Ok(MarkMask {
+            opened: true,
+            open_perm: true,
+        });
+    }
+    Err(LineRefused::BadLine)
 }
 
 #[tactic(auto, unfolding(crate::specs::Reading::mark_at))]
@@ -38,9 +83,10 @@ fn mark(alloc: Global, fields: &[u8]) -> Result<Line, LineRefused>
 {
     let (group, fields) = split_number(fields, 1, u32::MAX)?;
     let fields = skip_word(b"1", fields)?;
-    let fields = skip_word(b"20", fields)?;
+    let (word, fields) = split_word(fields)?;
+    let mask = mask(word)?;
     let path = path(alloc, fields)?;
-    Ok(Line::One(Step::Mark { group, path }))
+    Ok(Line::One(Step::Mark { group, mask, path }))
 }
 
 #[tactic(auto, unfolding(crate::specs::Reading::begin_at))]
@@ -60,6 +106,14 @@ fn begin(alloc: Global, fields: &[u8]) -> Result<Line, LineRefused>
     }))
 }
 
+#[tactic(auto, unfolding(crate::specs::Reading::step_at))]
+fn step(fields: &[u8]) -> Result<Line, LineRefused>
+    ensures { Gives (λ x. x) result (step_at fields.now) }
+{
+    let access = number(fields, 1, u32::MAX)?;
+    Ok(Line::One(Step::Advance { access }))
+}
+
 #[tactic(auto, unfolding(crate::specs::Reading::run_at))]
 fn run(fields: &[u8]) -> Result<Line, LineRefused>
     ensures { Gives (λ x. x) result (run_at fields.now) }
@@ -75,6 +129,23 @@ fn read(fields: &[u8]) -> Result<Line, LineRefused>
     let (group, fields) = split_number(fields, 1, u32::MAX)?;
     let size = number(fields, 0, MOST_SIZE)?;
     Ok(Line::One(Step::Read { group, size }))
+}
+
+#[tactic(auto, unfolding(crate::specs::Reading::write_at))]
+fn write(alloc: Global, fields: &[u8]) -> Result<Line, LineRefused>
+    ensures { Gives (λ x. x) result (write_at fields.now) }
+{
+    let (group, fields) = split_number(fields, 1, u32::MAX)?;
+    let bytes = response(alloc, fields)?;
+    Ok(Line::One(Step::Write { group, bytes }))
+}
+
+#[tactic(auto, unfolding(crate::specs::Reading::close_at))]
+fn close(fields: &[u8]) -> Result<Line, LineRefused>
+    ensures { Gives (λ x. x) result (close_at fields.now) }
+{
+    let group = number(fields, 1, u32::MAX)?;
+    Ok(Line::One(Step::Close { group }))
 }
 
 // The line with this first word and these fields behind it.
@@ -94,11 +165,20 @@ pub(crate) fn form(alloc: Global, name: &[u8], fields: &[u8]) -> Result<Line, Li
     if name == b"begin".as_slice() {
         return begin(alloc, fields);
     }
+    if name == b"step".as_slice() {
+        return step(fields);
+    }
     if name == b"run".as_slice() {
         return run(fields);
     }
     if name == b"read".as_slice() {
         return read(fields);
+    }
+    if name == b"write".as_slice() {
+        return write(alloc, fields);
+    }
+    if name == b"close".as_slice() {
+        return close(fields);
     }
     Err(LineRefused::BadLine)
 }

@@ -2,6 +2,7 @@
 #![tactic(auto)]
 
 mod forms;
+mod hex;
 mod laws;
 mod line;
 mod numbers;

@@ -22,7 +22,7 @@ pub enum Line {
 pub enum LineRefused {
     /// The bytes are no line.
     BadLine,
-    /// No memory was found for the path.
+    /// No memory was found for the path or the response.
     NoMemory,
 }
 
@@ -46,9 +46,10 @@ fn read_words(alloc: Global, bytes: &[u8]) -> Result<Line, LineRefused>
 }
 
 /// Reads one line, its bytes without the LF. The words are separated by one space each; a path is a
-/// slash and one name of 1 to 255 visible bytes of ASCII, and numbers are decimals without leading zeros.
+/// slash and one name of 1 to 255 visible bytes of ASCII, numbers are decimals without leading zeros,
+/// and flags, masks and the 1 to 64 bytes of a response are hexadecimal in lower case.
 /// `BadLine` comes only where the bytes are no line, and no other bytes are read. `NoMemory` comes where
-/// none is found for the path; no clause says that the bytes are a line then.
+/// none is found for the path or the response; no clause says that the bytes are a line then.
 pub fn read_line(alloc: Global, line: &[u8]) -> Result<Line, LineRefused>
     ensures found { IfOk result (λ read. LineOf line.now read) }
     ensures bad { result ≡ Err LineRefused.BadLine → (read : Line) → LineOf line.now read → ⊥ }
