@@ -1,7 +1,7 @@
 -- A script of good lines is answered to its end.
 use Rattle.std.proofs.Common.{◌≡◌, ◌⊎◌, ℕ, ◌+◌, ◌<◌, ◌≤◌, List, [], ◌∷◌, ◌++◌, Option, Some, None, length, refl, sym, ap, ◌∙◌, inl, inr, arith, length-append}
 use Rattle.std.specs.Prelude.{IfSome}
-use Rattle.std.specs.Io.KnownBytes.{Consumes}
+use Rattle.std.specs.Io.KnownBytes.{Appends, Consumes}
 use Rattle.fan_io.specs.Bytes.{GaveMore}
 use Rattle.fan_world.specs.World.{WorldState, opening_world}
 use Rattle.fan_shell.specs.declared.line.Line.{Line}
@@ -10,6 +10,7 @@ use Rattle.fan_shell.specs.declared.status.Status.TheVariants as statuses
 use Rattle.fan_shell.specs.Outcome.{Tells, Completes}
 use Rattle.fan_shell.specs.Playing.{play}
 use Rattle.fan_shell.specs.Script.{Taken, AllTaken, AreLines, IsValid, Transcript, printed, answered, lines_of}
+use Rattle.fan_shell.specs.Status.{IsTold, IsToldOrCut}
 use Rattle.fan_shell.proofs.TranscriptLemmas.{transcript_of, tells_played}
 
 -- good lines end with status 0
@@ -34,3 +35,18 @@ within_limit (Some bytes) None limit gave = absurd gave.consumed
 within_limit (Some bytes) (Some left) limit gave = λ most.
     let whole : bytes ≡ gave.given ++ left = gave.consumed in
     omega (arith, gave.more, ap length whole, length-append gave.given left)
+
+-- a script of good lines is answered whole where the sink doesn't fail, or memory runs out
+pub completes : (status : Status) (old new : Option (List ℕ)) (script : List ℕ) → IsToldOrCut status → (status ≡ statuses.WriteFault → ⊥) → (IsTold status → Appends old new (play script).0) → (IsTold status → (play script).1 ≡ status) → IsValid script → Completes old new script status
+completes statuses.Ok old new script ends no_fault put is valid =
+    inl (refl, tells_played old new script statuses.Ok (put tt) (is tt))
+completes statuses.BadLine old new script ends no_fault put is valid =
+    let bad = is tt in let good = plays_well script valid in absurd cc
+completes statuses.Usage old new script ends no_fault put is valid = absurd ends
+completes statuses.ReadFault old new script ends no_fault put is valid = absurd ends
+completes statuses.WriteFault old new script ends no_fault put is valid = absurd (no_fault refl)
+completes statuses.TooLong old new script ends no_fault put is valid = absurd ends
+completes statuses.NoMemory old new script ends no_fault put is valid = inr refl
+completes statuses.NotLegal old new script ends no_fault put is valid = absurd ends
+completes statuses.NoThread old new script ends no_fault put is valid = absurd ends
+completes statuses.BadRecord old new script ends no_fault put is valid = absurd ends

@@ -17,7 +17,7 @@ use fan_world::World;
 use std::alloc::Global;
 
 // The line that the bytes are, if they are one.
-#[tactic(auto, using(crate::proofs::PlayLemmas::line_from_found, crate::proofs::PlayLemmas::no_line_from_bad))]
+#[tactic(auto, using(crate::proofs::PlayLemmas::no_line_from_bad))]
 fn read_if_line(alloc: Global, bytes: &[u8]) -> Result<Option<Line>, NoMemory>
     ensures line { IfOk result (λ line. line ≡ line_at bytes.now) }
     ensures long { IfOk result (λ line. IfSome line (λ _. 5 ≤ length bytes.now)) }
