@@ -1,0 +1,33 @@
+// Laws of the machine, which hold whatever steps came before. The bodies are empty.
+ghost use Rattle.std.specs.Prelude.{◌≡◌, ◌↔◌, ℕ, List, find};
+ghost use Rattle.fan_world.specs.declared.step.Step.{Step};
+ghost use Rattle.fan_world.specs.declared.step.StepOutcome.{StepOutcome};
+ghost use Rattle.fan_world.specs.AccessLaw.{GoesInOrder, outcomes_of, is_finished};
+ghost use Rattle.fan_world.specs.Accesses.{AccessState, has_number};
+ghost use Rattle.fan_world.specs.Causes.{IsDueTo};
+ghost use Rattle.fan_world.specs.Files.{object_at};
+ghost use Rattle.fan_world.specs.Run.{after_steps};
+ghost use Rattle.fan_world.specs.World.{opening_world, next};
+
+use super::step::{Reply, Step};
+
+/// An access that begins asks groups and then tells groups, by the marks as they stand at its
+/// begin and whatever comes after it. Their outcomes come in that order, up to the first denial,
+/// and to the last group where the access is finished.
+pub fn accesses_ask_then_tell()
+    ensures { (before after : List Step) (number pid tid object : ℕ) (path : List ℕ) →
+        let world = after_steps opening_world before in
+        let begun = next world (Step.Begin number pid tid path) in
+        begun.0 ≡ Reply.Done → object_at world.files path ≡ Some object →
+        GoesInOrder world.marks object (outcomes_of number begun.1 after)
+            (is_finished number (after_steps begun.1 after)) }
+{}
+
+/// Each outcome of a single step of an open access comes exactly where its cause holds.
+pub fn outcomes_have_causes()
+    ensures { (before : List Step) (number : ℕ) (access : AccessState) (outcome : StepOutcome) →
+        let world = after_steps opening_world before in
+        find (has_number number) world.accesses ≡ Some access →
+        ((next world (Step.Advance number)).0 ≡ Reply.Out outcome)
+            ↔ IsDueTo world.listeners access outcome }
+{}
