@@ -1,0 +1,4 @@
+mod Ahead
+mod Numbered
+mod OpenAccess
+mod WholeAccess
