@@ -1,4 +1,5 @@
 mod Ahead
 mod Numbered
 mod OpenAccess
+mod Verdicts
 mod WholeAccess
