@@ -1,4 +1,5 @@
 mod Ahead
+mod Causing
 mod Numbered
 mod OpenAccess
 mod Verdicts
