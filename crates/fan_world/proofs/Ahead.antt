@@ -1,5 +1,5 @@
 -- What is ahead of an access, and that its single step does the first of it.
-use Rattle.std.proofs.Common.{◌≡◌, ℕ, ◌+◌, Bool, true, false, List, [], ◌∷◌, ◌++◌, Option, Some, None, refl, ap, drop}
+use Rattle.std.proofs.Common.{◌≡◌, ℕ, Bool, true, false, List, [], ◌∷◌, ◌++◌, Option, Some, None, refl, drop}
 use Rattle.std.specs.Prelude.{slice_get}
 use Rattle.fan_listener.specs.declared.answers.Answer.{Answer}
 use Rattle.fan_listener.specs.declared.answers.Answer.TheVariants as answers
@@ -12,7 +12,7 @@ use Rattle.fan_world.specs.declared.step.StepOutcome.{StepOutcome}
 use Rattle.fan_world.specs.declared.step.StepOutcome.TheVariants as outcomes
 use Rattle.fan_world.specs.AccessLaw.{AsksThenTells, TellsInOrder, asked_by, told_by, is_denial, settled_in}
 use Rattle.fan_world.specs.Accesses.{AccessState, asks, tells, access_step, step_by, looked, asked_next, told_next, after_answer, after_ask, after_tell, settled_one, told_one, answer_from, put_to, asked_event, told_event}
-use Rattle.fan_world.proofs.Numbered.{drop_next, drop_end}
+use Rattle.fan_world.proofs.Passing.{drop_next, drop_end}
 
 -- the groups that are left to ask and to tell
 abbrev pub asks_left : AccessState → List ℕ

@@ -1,6 +1,6 @@
 mod Ahead
-mod Causing
-mod Numbered
+mod CauseLemmas
 mod OpenAccess
+mod Passing
 mod Verdicts
 mod WholeAccess

@@ -1,5 +1,5 @@
 -- The open accesses of one number: there is one at most, and only its own steps change it.
-use Rattle.std.proofs.Common.{◌≡◌, ◌∙◌, ℕ, ◌+◌, ◌<◌, ◌≤◌, Bool, true, false, cond, ltb, eqb, List, [], ◌∷◌, ◌++◌, Option, Some, None, refl, sym, ap, arith}
+use Rattle.std.proofs.Common.{◌≡◌, ◌∙◌, ℕ, ◌<◌, ◌≤◌, true, false, cond, ltb, eqb, List, [], ◌∷◌, ◌++◌, Option, Some, None, refl, sym, ap, arith}
 use Rattle.std.proofs.lemmas.Bool.{eqb-true, eqb-false, ne_eqb, eq-eqb, ltb-true}
 use Rattle.std.proofs.lemmas.List.{append-nil}
 use Rattle.std.proofs.lemmas.List.Elements.{filter-append}
@@ -9,7 +9,6 @@ use Rattle.fan_listener.specs.declared.answers.Answer.{Answer}
 use Rattle.fan_listener.specs.declared.answers.Answer.TheVariants as answers
 use Rattle.fan_listener.specs.declared.queue.Put.{Put}
 use Rattle.fan_listener.specs.declared.queue.Put.TheVariants as puts
-use Rattle.fan_listener.specs.First.{without_first, change_first}
 use Rattle.fan_listener.specs.ListenerState.{ListenerState}
 use Rattle.fan_world.specs.declared.access.Opening.{Opening}
 use Rattle.fan_world.specs.declared.access.WaitingFor.{WaitingFor}
@@ -20,7 +19,7 @@ use Rattle.fan_world.specs.declared.step.Reply.TheVariants as replies
 use Rattle.fan_world.specs.Accesses.{AccessState, asks, tells, access_step, step_by, looked, asked_next, told_next, after_answer, after_ask, answer_from, put_to, asked_event, beginning, has_number}
 use Rattle.fan_world.specs.Files.{object_at}
 use Rattle.fan_world.specs.World.{after_step, advanced_at, advanced, begun_at, begun}
-use Rattle.fan_world.proofs.Numbered.{find-filter, find_passes, filter-change_first_other, filter-without_first_other}
+use Rattle.fan_world.proofs.Passing.{find-filter, find_passes, filter-change_first_other, filter-without_first_other}
 
 -- an access that stays open has the number that it had
 abbrev pub KeepsNumber : AccessState → Option AccessState → Type 0
@@ -93,7 +92,7 @@ pub advanced_none : (listeners : List ListenerState) (accesses : List AccessStat
 unfolding advanced
 advanced_none listeners accesses number none =
     let missing : find (has_number number) accesses ≡ None =
-        find-filter (has_number number) accesses ∙ ap (λ (xs : List AccessState). slice_get xs 0) none in
+    find-filter (has_number number) accesses ∙ ap (λ (xs : List AccessState). slice_get xs 0) none in
     rw missing refl
 
 -- no single step opens an access
@@ -120,16 +119,16 @@ begun_stands files marks accesses last opening path number found stands =
     let used : number ≤ last = stands.used in
     let at = object_at files path in
     (elim (ltb last opening.number) as (λ new. ltb last opening.number ≡ new →
-        Stands number found
-        (cond {A = Reply × List AccessState × ℕ} new (begun_at at marks accesses last opening) (replies.Refused errno.Eexist, accesses, last)).1
-        (cond {A = Reply × List AccessState × ℕ} new (begun_at at marks accesses last opening) (replies.Refused errno.Eexist, accesses, last)).2) [
+    Stands number found
+    (cond {A = Reply × List AccessState × ℕ} new (begun_at at marks accesses last opening) (replies.Refused errno.Eexist, accesses, last)).1
+    (cond {A = Reply × List AccessState × ℕ} new (begun_at at marks accesses last opening) (replies.Refused errno.Eexist, accesses, last)).2) [
       | true ↦ λ is.
-        let above : last < opening.number = ltb-true last opening.number is in
-        let rises : last ≤ (begun_at at marks accesses last opening).2 = begun_last_at at marks accesses last opening above in
-        record {
-          used = omega arith;
-          only = begun_other_at at marks accesses last number opening (ne_eqb opening.number number (λ same. absurd (omega arith))) ∙ stands.only;
-        }
+          let above : last < opening.number = ltb-true last opening.number is in
+          let rises : last ≤ (begun_at at marks accesses last opening).2 = begun_last_at at marks accesses last opening above in
+          record {
+            used = omega arith;
+            only = begun_other_at at marks accesses last number opening (ne_eqb opening.number number (λ same. absurd (omega arith))) ∙ stands.only;
+          }
       | false ↦ λ is. stands
     ]) refl
 
@@ -149,9 +148,9 @@ unfolding begun
 begun_fresh files marks accesses last opening path fresh =
     let at = object_at files path in
     (elim (ltb last opening.number) as (λ new. ltb last opening.number ≡ new →
-        AreFresh
-        (cond {A = Reply × List AccessState × ℕ} new (begun_at at marks accesses last opening) (replies.Refused errno.Eexist, accesses, last)).1
-        (cond {A = Reply × List AccessState × ℕ} new (begun_at at marks accesses last opening) (replies.Refused errno.Eexist, accesses, last)).2) [
+    AreFresh
+    (cond {A = Reply × List AccessState × ℕ} new (begun_at at marks accesses last opening) (replies.Refused errno.Eexist, accesses, last)).1
+    (cond {A = Reply × List AccessState × ℕ} new (begun_at at marks accesses last opening) (replies.Refused errno.Eexist, accesses, last)).2) [
       | true ↦ λ is. begun_fresh_at at marks accesses last opening (ltb-true last opening.number is) fresh
       | false ↦ λ is. fresh
     ]) refl
@@ -167,10 +166,10 @@ pub begun_opens : (files : List File) (marks : List Mark) (accesses : List Acces
 unfolding begun
 begun_opens files marks accesses last opening path object fresh done here =
     (elim (ltb last opening.number) as (λ new. ltb last opening.number ≡ new →
-        (cond {A = Reply × List AccessState × ℕ} new (begun_at (object_at files path) marks accesses last opening) (replies.Refused errno.Eexist, accesses, last)).0 ≡ replies.Done →
-        Stands opening.number (beginning opening object marks ∷ [])
-        (cond {A = Reply × List AccessState × ℕ} new (begun_at (object_at files path) marks accesses last opening) (replies.Refused errno.Eexist, accesses, last)).1
-        (cond {A = Reply × List AccessState × ℕ} new (begun_at (object_at files path) marks accesses last opening) (replies.Refused errno.Eexist, accesses, last)).2) [
+    (cond {A = Reply × List AccessState × ℕ} new (begun_at (object_at files path) marks accesses last opening) (replies.Refused errno.Eexist, accesses, last)).0 ≡ replies.Done →
+    Stands opening.number (beginning opening object marks ∷ [])
+    (cond {A = Reply × List AccessState × ℕ} new (begun_at (object_at files path) marks accesses last opening) (replies.Refused errno.Eexist, accesses, last)).1
+    (cond {A = Reply × List AccessState × ℕ} new (begun_at (object_at files path) marks accesses last opening) (replies.Refused errno.Eexist, accesses, last)).2) [
       | true ↦ λ is was_done. rw here (opened opening object marks accesses (fresh opening.number (ltb-true last opening.number is)))
       | false ↦ λ is was_done. absurd (cc)
     ]) refl done

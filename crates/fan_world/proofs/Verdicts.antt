@@ -1,5 +1,5 @@
 -- Each answer that a listener keeps is a verdict: it allows or denies.
-use Rattle.std.proofs.Common.{◌≡◌, ◌∙◌, ℕ, zero, suc, ◌+◌, ◌-◌, ◌==◌, Bool, true, false, cond, List, [], ◌∷◌, ◌++◌, Option, Some, None, Result, Ok, Err, refl, sym, ap, take, drop, eqb, get_or, length, not}
+use Rattle.std.proofs.Common.{◌≡◌, ◌∙◌, ℕ, zero, suc, ◌+◌, ◌-◌, Bool, true, false, cond, List, [], ◌∷◌, ◌++◌, Option, Some, None, Result, Ok, Err, refl, sym, take, drop, eqb, get_or, length, not}
 use Rattle.std.specs.Int.{from_le_bytes, w32}
 use Rattle.std.specs.Prelude.{All, count_by, find, option_map, slice_get, nat_lt}
 use Rattle.std.specs.List.{position_or_len}
@@ -20,11 +20,11 @@ use Rattle.fan_listener.specs.declared.event.Event.{Event}
 use Rattle.fan_listener.specs.declared.queue.Entry.{Entry}
 use Rattle.fan_listener.specs.declared.queue.Put.{Put}
 use Rattle.fan_listener.specs.declared.queue.Put.TheVariants as puts
-use Rattle.fan_listener.specs.First.{without_first, change_first}
+use Rattle.fan_listener.specs.First.{without_first}
 use Rattle.fan_listener.specs.ListenerState.{ListenerState, new_listener}
 use Rattle.fan_listener.specs.Queue.{put, put_lost, put_told, is_full, is_lost, first_number, takes, queued}
 use Rattle.fan_listener.specs.Records.{front_within, read_of, read_queue, read_front, record_len, records}
-use Rattle.fan_listener.specs.Responses.{answer_in, answer_of, answered, answered_state, closed_of, is_to, responded, verdict, waiting_under, written}
+use Rattle.fan_listener.specs.Responses.{answer_in, answer_of, answered, closed_of, is_to, responded, verdict, waiting_under, written}
 use Rattle.fan_world.specs.declared.access.WaitingFor.{WaitingFor}
 use Rattle.fan_world.specs.declared.marks.Mark.{Mark}
 use Rattle.fan_world.specs.declared.step.Reply.{Reply}

@@ -1,25 +1,24 @@
 -- The whole of an access, from its begin on: each step of its number does the first of what is ahead of it.
-use Rattle.std.proofs.Common.{◌≡◌, ◌∙◌, ℕ, ◌+◌, ◌<◌, ◌≤◌, Bool, true, false, cond, ltb, eqb, List, [], ◌∷◌, ◌++◌, Option, Some, None, refl, sym, ap, subst, arith}
+use Rattle.std.proofs.Common.{◌≡◌, ◌∙◌, ℕ, ◌≤◌, Bool, true, false, cond, eqb, List, [], ◌∷◌, ◌++◌, Option, Some, None, refl, ap}
 use Rattle.std.proofs.lemmas.Bool.{eqb-true, eq-eqb}
 use Rattle.std.proofs.lemmas.List.{append-nil}
-use Rattle.std.specs.Prelude.{filter, find, slice_get, is_none}
+use Rattle.std.specs.Prelude.{find, slice_get, is_none}
 use Rattle.fan_bits.specs.declared.errno.Errno.TheVariants as errno
 use Rattle.fan_listener.specs.First.{without_first, change_first}
 use Rattle.fan_listener.specs.ListenerState.{ListenerState}
-use Rattle.fan_world.specs.declared.access.Opening.{Opening}
 use Rattle.fan_world.specs.declared.step.Reply.{Reply}
 use Rattle.fan_world.specs.declared.step.Reply.TheVariants as replies
 use Rattle.fan_world.specs.declared.step.Step.{Step}
 use Rattle.fan_world.specs.declared.step.Step.TheVariants as steps
 use Rattle.fan_world.specs.declared.step.StepOutcome.{StepOutcome}
-use Rattle.fan_world.specs.AccessLaw.{AsksThenTells, GoesInOrder, settled_in, settled_by, outcomes_of, is_finished}
+use Rattle.fan_world.specs.AccessLaw.{GoesInOrder, settled_in, settled_by, outcomes_of, is_finished}
 use Rattle.fan_world.specs.Accesses.{AccessState, access_step, beginning, has_number}
 use Rattle.fan_world.specs.Files.{object_at}
 use Rattle.fan_world.specs.Run.{after_steps}
-use Rattle.fan_world.specs.World.{WorldState, opening_world, next, after_step, advanced_at, advanced}
-use Rattle.fan_world.proofs.Ahead.{Ahead, IsSteady, Goes, GoesOn, asks_left, tells_left, nothing_yet, step_goes}
-use Rattle.fan_world.proofs.Numbered.{find-filter, filter-change_first_same, filter-without_first_same}
-use Rattle.fan_world.proofs.OpenAccess.{AreFresh, Stands, KeepsNumber, numbered, advanced_other, advanced_none, advanced_keeps_none, begun_stands, begun_fresh, begun_opens}
+use Rattle.fan_world.specs.World.{WorldState, opening_world, next, after_step, advanced}
+use Rattle.fan_world.proofs.Ahead.{Ahead, IsSteady, Goes, asks_left, tells_left, nothing_yet, step_goes}
+use Rattle.fan_world.proofs.Passing.{find-filter, filter_none, filter-change_first_same, filter-without_first_same}
+use Rattle.fan_world.proofs.OpenAccess.{AreFresh, Stands, numbered, advanced_other, advanced_none, advanced_keeps_none, begun_stands, begun_fresh, begun_opens}
 
 -- the numbers above the last are fresh, whatever comes
 fresh_next : (world : WorldState) (step : Step) → AreFresh world.accesses world.last_access → AreFresh (next world step).1.accesses (next world step).1.last_access
@@ -88,10 +87,27 @@ silent_after (step ∷ more) number world stands =
 finished_after : (steps : List Step) (number : ℕ) (world : WorldState) → StandsIn number [] world → is_finished number (after_steps world steps) ≡ true
 finished_after [] number world stands =
     let missing : find (has_number number) world.accesses ≡ None =
-        find-filter (has_number number) world.accesses ∙ ap (λ (xs : List AccessState). slice_get xs 0) stands.only in
+    find-filter (has_number number) world.accesses ∙ ap (λ (xs : List AccessState). slice_get xs 0) stands.only in
     rw missing refl
 finished_after (step ∷ more) number world stands =
     finished_after more number (next world step).1 (rests number world step stands).stands
+
+-- and a step of it is refused
+refused_after : (after : List Step) (number : ℕ) (world : WorldState) → StandsIn number [] world → (next (after_steps world after) (steps.Advance number)).0 ≡ replies.Refused errno.Esrch
+unfolding next
+refused_after [] number world stands = rw (advanced_none world.listeners world.accesses number stands.only) refl
+refused_after (step ∷ more) number world stands =
+    refused_after more number (next world step).1 (rests number world step stands).stands
+
+is_missing : (found : Option AccessState) → is_none found ≡ true → found ≡ None
+is_missing None none = refl
+is_missing (Some access) none = absurd (cc)
+
+-- from any state on, a number that is used and not open stays so
+pub stays_finished : (world : WorldState) (after : List Step) (number : ℕ) → number ≤ world.last_access → is_finished number world ≡ true → (next (after_steps world after) (steps.Advance number)).0 ≡ replies.Refused errno.Esrch
+stays_finished world after number used finished =
+    let missing : find (has_number number) world.accesses ≡ None = is_missing (find (has_number number) world.accesses) finished in
+    refused_after after number world (record { used = used; only = filter_none (has_number number) world.accesses missing })
 
 -- an open access after a step: it goes on, or it is finished by what the step settles
 data Turn (number : ℕ) (access : AccessState) (said : List StepOutcome) (after : WorldState) : Type 0 where
@@ -126,7 +142,7 @@ turn_own : (number : ℕ) (access : AccessState) (world : WorldState) → access
 unfolding next advanced
 turn_own number access world is steady stands =
     let found : find (has_number number) world.accesses ≡ Some access =
-        find-filter (has_number number) world.accesses ∙ ap (λ (xs : List AccessState). slice_get xs 0) stands.only in
+    find-filter (has_number number) world.accesses ∙ ap (λ (xs : List AccessState). slice_get xs 0) stands.only in
     rw found
     (turn_by number access (access_step world.listeners access).0 (access_step world.listeners access).2 world (access_step world.listeners access).1 is stands (step_goes world.listeners access steady))
 
@@ -172,7 +188,7 @@ ahead : (steps : List Step) (number : ℕ) (access : AccessState) (world : World
 unfolding outcomes_of
 ahead [] number access world is steady stands =
     let found : find (has_number number) world.accesses ≡ Some access =
-        find-filter (has_number number) world.accesses ∙ ap (λ (xs : List AccessState). slice_get xs 0) stands.only in
+    find-filter (has_number number) world.accesses ∙ ap (λ (xs : List AccessState). slice_get xs 0) stands.only in
     rw found (nothing_yet (asks_left access) (tells_left access))
 ahead (step ∷ more) number access world is steady stands =
     ahead_by number access (settled_by number step (next world step).0) (next world step).1 more (turn number access world step is steady stands)

@@ -27,7 +27,7 @@ abbrev pub put_of : Option ListenerState → (ℕ → Event) → Put
 put_of None event = puts.Closed
 put_of (Some listener) event = (put listener (event listener.flags)).0
 
--- the access waits for a group's answer to an entry, which is this one, if any was given
+-- the access waits for a group to answer an entry, and this answer is kept for it, if any is
 pub record WaitsFor (listeners : List ListenerState) (access : AccessState) (group : ℕ) (answer : Option Answer) : Type 0 where
   pub entry : ℕ
   pub waits : access.waiting ≡ Some (record { group = group; entry = entry })
@@ -52,10 +52,11 @@ pub record HasNoneLeft (access : AccessState) : Type 0 where
   pub asked : slice_get (asks access) access.settled ≡ None
   pub told : slice_get (tells access) access.told ≡ None
 
--- a group is closed for an access that waits for its answer, and asks it or tells it
+-- the access waits for a group with no answer kept, or asks or tells it and its event is not taken
 abbrev pub MeetsClosed : List ListenerState → AccessState → ℕ → Type 0
 MeetsClosed listeners access group =
-    WaitsFor listeners access group None ⊎ (AsksNext listeners access group puts.Closed ⊎ TellsNext listeners access group puts.Closed)
+    WaitsFor listeners access group None
+    ⊎ (AsksNext listeners access group puts.Closed ⊎ TellsNext listeners access group puts.Closed)
 
 -- the cause of each outcome
 abbrev pub IsDueTo : List ListenerState → AccessState → StepOutcome → Type 0

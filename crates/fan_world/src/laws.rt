@@ -1,5 +1,5 @@
 // Laws of the machine, which hold whatever steps came before. The bodies are empty.
-ghost use Rattle.std.specs.Prelude.{◌≡◌, ◌↔◌, ℕ, List, find};
+ghost use Rattle.std.specs.Prelude.{◌≡◌, ◌≤◌, ◌↔◌, ℕ, List, true, find};
 ghost use Rattle.fan_world.specs.declared.step.Step.{Step};
 ghost use Rattle.fan_world.specs.declared.step.StepOutcome.{StepOutcome};
 ghost use Rattle.fan_world.specs.AccessLaw.{GoesInOrder, outcomes_of, is_finished};
@@ -7,9 +7,10 @@ ghost use Rattle.fan_world.specs.Accesses.{AccessState, has_number};
 ghost use Rattle.fan_world.specs.Causes.{IsDueTo};
 ghost use Rattle.fan_world.specs.Files.{object_at};
 ghost use Rattle.fan_world.specs.Run.{after_steps};
-ghost use Rattle.fan_world.specs.World.{opening_world, next};
+ghost use Rattle.fan_world.specs.World.{WorldState, opening_world, next};
 
 use super::step::{Reply, Step};
+use fan_bits::Errno;
 
 /// An access that begins asks groups and then tells groups, by the marks as they stand at its
 /// begin and whatever comes after it. Their outcomes come in that order, up to the first denial,
@@ -20,7 +21,14 @@ pub fn accesses_ask_then_tell()
         let begun = next world (Step.Begin number pid tid path) in
         begun.0 ≡ Reply.Done → object_at world.files path ≡ Some object →
         GoesInOrder world.marks object (outcomes_of number begun.1 after)
-            (is_finished number (after_steps begun.1 after)) }
+        (is_finished number (after_steps begun.1 after)) }
+{}
+
+/// A number that an access had, and that is not open, is never open again: nothing is done for it.
+pub fn finished_accesses_stay_so()
+    ensures { (world : WorldState) (after : List Step) (number : ℕ) →
+        number ≤ world.last_access → is_finished number world ≡ true →
+        (next (after_steps world after) (Step.Advance number)).0 ≡ Reply.Refused Errno.Esrch }
 {}
 
 /// Each outcome of a single step of an open access comes exactly where its cause holds.
@@ -29,5 +37,5 @@ pub fn outcomes_have_causes()
         let world = after_steps opening_world before in
         find (has_number number) world.accesses ≡ Some access →
         ((next world (Step.Advance number)).0 ≡ Reply.Out outcome)
-            ↔ IsDueTo world.listeners access outcome }
+        ↔ IsDueTo world.listeners access outcome }
 {}

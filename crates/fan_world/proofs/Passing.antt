@@ -1,5 +1,5 @@
 -- The elements of a list that pass a test, against searches and edits of the first that passes.
-use Rattle.std.proofs.Common.{◌≡◌, ◌∙◌, ℕ, ◌+◌, zero, suc, Bool, true, false, cond, List, [], ◌∷◌, Option, Some, None, refl, ap, drop}
+use Rattle.std.proofs.Common.{◌≡◌, ◌∙◌, ℕ, ◌+◌, zero, suc, Bool, true, false, cond, List, [], ◌∷◌, Some, None, refl, ap, drop}
 use Rattle.std.proofs.lemmas.List.{drop_more}
 use Rattle.std.proofs.lemmas.Option.{slice_get_within, get_or_from_slice_get}
 use Rattle.std.specs.Prelude.{filter, find, slice_get}
@@ -13,6 +13,15 @@ find-filter test (x ∷ xs) =
       | true ↦ refl
       | false ↦ find-filter test xs
     ]
+
+-- where a search finds nothing, nothing passes
+pub filter_none : {X : Type 0} (test : X → Bool) (xs : List X) → find test xs ≡ None → filter test xs ≡ []
+filter_none test [] none = refl
+filter_none test (x ∷ xs) none =
+    (elim (test x) as (λ here. cond here (Some x) (find test xs) ≡ None → cond here (x ∷ filter test xs) (filter test xs) ≡ []) [
+      | true ↦ λ found. absurd (cc)
+      | false ↦ λ rest. filter_none test xs rest
+    ]) none
 
 -- what a search finds passes
 pub find_passes : {X : Type 0} (test : X → Bool) (xs : List X) (found : X) → find test xs ≡ Some found → test found ≡ true

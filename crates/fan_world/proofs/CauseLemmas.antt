@@ -1,5 +1,5 @@
 -- The outcome of a single step, from its cause, and the cause, from the outcome.
-use Rattle.std.proofs.Common.{◌≡◌, ◌∙◌, ◌⊎◌, ℕ, Bool, true, false, cond, List, Option, Some, None, inl, inr, refl, sym, ap, subst}
+use Rattle.std.proofs.Common.{◌≡◌, ◌∙◌, ℕ, Bool, true, false, cond, List, Option, Some, None, inl, inr, refl, ap}
 use Rattle.std.specs.Prelude.{find, slice_get}
 use Rattle.fan_listener.specs.declared.answers.Answer.{Answer}
 use Rattle.fan_listener.specs.declared.answers.Answer.TheVariants as answers
@@ -16,7 +16,7 @@ use Rattle.fan_world.specs.declared.step.StepOutcome.{StepOutcome}
 use Rattle.fan_world.specs.declared.step.StepOutcome.TheVariants as outcomes
 use Rattle.fan_world.specs.Accesses.{AccessState, asks, tells, access_step, step_by, looked, asked_next, told_next, after_answer, after_ask, after_tell, put_at, put_to, answer_at, answer_from, listener_at, asked_event, told_event, has_number}
 use Rattle.fan_world.specs.Causes.{is_shut, kept_answer, put_of, WaitsFor, AsksNext, TellsNext, HasNoneLeft, IsDueTo}
-use Rattle.fan_world.specs.World.{WorldState, next, advanced_at, advanced}
+use Rattle.fan_world.specs.World.{WorldState, next, advanced}
 use Rattle.fan_world.proofs.Verdicts.{IsKept, KeepVerdicts, held_keeps, kept_is}
 
 answer_at_is : (found : Option ListenerState) (listeners : List ListenerState) (group entry : ℕ) → (answer_at found listeners group entry).0 ≡ answer_or_closed (is_shut found) (kept_answer found entry)
@@ -97,9 +97,9 @@ waits_gives : (listeners : List ListenerState) (access : AccessState) (group : �
 unfolding access_step
 waits_gives listeners access group kept shut due is =
     let seen : (answer_from listeners group due.entry).0 ≡ answer_or_closed shut kept =
-        answer_from_is listeners group due.entry
-        ∙ ap (λ (b : Bool). answer_or_closed b (kept_answer (listener_at listeners group) due.entry)) is
-        ∙ ap (λ (a : Option Answer). answer_or_closed shut a) due.kept in
+    answer_from_is listeners group due.entry
+    ∙ ap (λ (b : Bool). answer_or_closed b (kept_answer (listener_at listeners group) due.entry)) is
+    ∙ ap (λ (a : Option Answer). answer_or_closed shut a) due.kept in
     waits_at listeners access access.waiting (slice_get (asks access) access.settled) (slice_get (tells access) access.told) (record { group = group; entry = due.entry }) due.waits
     ∙ ap (λ (a : Answer). (after_answer group a access).0) seen
 
@@ -163,7 +163,7 @@ due_by : (waiting : Option WaitingFor) (ask tell : Option ℕ) (listeners : List
 due_by (Some asked) ask tell listeners access verdicts waits next told =
     let found = listener_at listeners asked.group in
     let due : WaitsFor listeners access asked.group (kept_answer found asked.entry) =
-        record { entry = asked.entry; waits = waits; kept = refl } in
+    record { entry = asked.entry; waits = waits; kept = refl } in
     rw (waits_gives listeners access asked.group (kept_answer found asked.entry) (is_shut found) due refl)
     (answer_due listeners access asked.group (kept_answer found asked.entry) (is_shut found) (kept_is found asked.entry (held_keeps listeners asked.group verdicts)) due refl)
 due_by None (Some group) tell listeners access verdicts waits next told =
