@@ -24,7 +24,7 @@ pub fn accesses_ask_then_tell()
         (is_finished number (after_steps begun.1 after)) }
 {}
 
-/// A number that an access had, and that is not open, is never open again: nothing is done for it.
+/// A number up to the greatest that an access had, and that is not open, is never open again.
 pub fn finished_accesses_stay_so()
     ensures { (world : WorldState) (after : List Step) (number : ℕ) →
         number ≤ world.last_access → is_finished number world ≡ true →
