@@ -5,6 +5,7 @@ mod access;
 mod accesses;
 mod files;
 mod groups;
+mod laws;
 mod marking;
 mod marks;
 mod step;
@@ -13,6 +14,7 @@ mod world;
 
 pub use access::{Access, Opening, WaitingFor};
 pub use files::File;
+pub use laws::{accesses_ask_then_tell, finished_accesses_stay_so, outcomes_have_causes};
 pub use marks::{Mark, MarkMask};
 pub use step::{Reply, Step, StepOutcome};
 pub use world::World;
