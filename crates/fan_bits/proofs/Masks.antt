@@ -14,7 +14,8 @@ bit_times (suc zero) power small some = grind (arith, nat_tests)
 bit_times (suc (suc more)) power small some = absurd (omega arith)
 
 -- a word has all of a mask of one bit just where this bit occurs
-pub mask_occurs : (flags mask number : ℕ) → mask ≡ 2 ^ number → (bit_and flags mask == mask) ≡ occurs flags number
+pub mask_occurs : (flags mask number : ℕ) → mask ≡ 2 ^ number
+    → (bit_and flags mask == mask) ≡ occurs flags number
 unfolding occurs
 mask_occurs flags mask number is =
     rw (is, and_pow) (bit_times (bit_at flags number) (2 ^ number) (bit_at-lt flags number) (pow_pos number))
@@ -42,26 +43,31 @@ all_below_at (suc number) at test below passes =
     ] refl
 
 -- what passes at each number below one passes below it
-all_below_all : (number : ℕ) (test : ℕ → Bool) → ((at : ℕ) → at < number → test at ≡ true) → all_below number test ≡ true
+all_below_all : (number : ℕ) (test : ℕ → Bool) → ((at : ℕ) → at < number → test at ≡ true)
+    → all_below number test ≡ true
 unfolding all_below
 all_below_all zero test each = refl
 all_below_all (suc number) test each =
-    let before : all_below number test ≡ true = all_below_all number test (λ at below. each at (omega arith)) in
+    let before : all_below number test ≡ true = all_below_all number test (λ at below. each at
+    (omega arith)) in
     let here : test number ≡ true = each number (omega arith) in
     rw (before, here) refl
 
 -- below 32 the bits of all flags together are those of the flags
 flag_bits : (at : ℕ) → at < 32 → (bit_at 0xf3f at == cond (is_flag at) 1 0) ≡ true
 unfolding all_below
-flag_bits at below = all_below_at 32 at (λ number. bit_at 0xf3f number == cond (is_flag number) 1 0) below refl
+flag_bits at below = all_below_at 32 at (λ number. bit_at 0xf3f number == cond
+    (is_flag number) 1 0) below refl
 
 -- a bit that is 1 only where a flag is stays under the mask of all flags
-kept_bit : (flag : Bool) (bit mask : ℕ) → bit < 2 → (mask == cond flag 1 0) ≡ true → (flag || not (bit == 1)) ≡ true → min bit mask ≡ bit
+kept_bit : (flag : Bool) (bit mask : ℕ) → bit < 2 → (mask == cond flag 1 0) ≡ true
+    → (flag || not (bit == 1)) ≡ true → min bit mask ≡ bit
 kept_bit true bit mask small is only = grind (arith, nat_tests)
 kept_bit false bit mask small is only = grind (arith, nat_tests)
 
 -- and one that stays under this mask is 1 only where a flag is
-only_bit : (flag : Bool) (bit mask : ℕ) → bit < 2 → (mask == cond flag 1 0) ≡ true → min bit mask ≡ bit → (flag || not (bit == 1)) ≡ true
+only_bit : (flag : Bool) (bit mask : ℕ) → bit < 2 → (mask == cond flag 1 0) ≡ true
+    → min bit mask ≡ bit → (flag || not (bit == 1)) ≡ true
 only_bit true bit mask small is kept = refl
 only_bit false bit mask small is kept = grind (arith, nat_tests)
 
@@ -76,4 +82,5 @@ mask_has_only_flags flags small =
     (sym (bit_at_and flags 0xf3f at) ∙ ap (λ n. bit_at n at) (eqb-true _ _ kept))))
     (λ only. eq-eqb _ _ (same_from_bits_below 32 _ _ (omega (arith, and_le_l flags 0xf3f)) small (λ at below.
     bit_at_and flags 0xf3f at
-    ∙ kept_bit (is_flag at) (bit_at flags at) (bit_at 0xf3f at) (bit_at-lt flags at) (flag_bits at below) (all_below_at 32 at test below only))))
+    ∙ kept_bit (is_flag at) (bit_at flags at) (bit_at 0xf3f at) (bit_at-lt flags at)
+    (flag_bits at below) (all_below_at 32 at test below only))))

@@ -8,12 +8,15 @@ use Rattle.fan_listener.specs.Queue.{put}
 use Rattle.fan_listener.specs.Responses.{answer_of, answer_in, answer_or_closed, is_to, closed_of}
 
 -- a closed listener takes no event and stays
-pub put-closed : (state : ListenerState) (event : Event) → state.closed ≡ true → put state event ≡ (puts.Closed, state)
+pub put-closed : (state : ListenerState) (event : Event) → state.closed ≡ true
+    → put state event ≡ (puts.Closed, state)
 unfolding put
 put-closed state event closed = rw closed refl
 
 -- an event without an answer counts as closed after the close
-pub answer_of-closed_of : (state : ListenerState) (entry : ℕ) → find (is_to entry) state.answers ≡ None → (answer_of (closed_of state) entry).0 ≡ answers.Closed
+pub answer_of-closed_of : (state : ListenerState) (entry : ℕ)
+    → find (is_to entry) state.answers ≡ None
+    → (answer_of (closed_of state) entry).0 ≡ answers.Closed
 unfolding answer_of closed_of
 answer_of-closed_of state entry none = ap (λ found. answer_or_closed true (option_map answer_in found)) none
 

@@ -19,12 +19,15 @@ unfolding merged
 asks-merged event entry = body_asks-with_bits event.bits entry.body
 
 -- a choice of two lists with the same count
-count-cond : {X : Type 0} (test : X → Bool) (b : Bool) (xs ys : List X) (n : ℕ) → count_by test xs ≡ n → count_by test ys ≡ n → count_by test (cond b xs ys) ≡ n
+count-cond : {X : Type 0} (test : X → Bool) (b : Bool) (xs ys : List X) (n : ℕ)
+    → count_by test xs ≡ n → count_by test ys ≡ n → count_by test (cond b xs ys) ≡ n
 count-cond test true xs ys n left right = left
 count-cond test false xs ys n left right = right
 
 -- a change of one element that keeps a test keeps the count
-pub count_by-change_first : {X : Type 0} (test counted : X → Bool) (change : X → X) (xs : List X) → ((x : X) → counted (change x) ≡ counted x) → count_by counted (change_first test change xs) ≡ count_by counted xs
+pub count_by-change_first : {X : Type 0} (test counted : X → Bool) (change : X → X) (xs : List X)
+    → ((x : X) → counted (change x) ≡ counted x)
+    → count_by counted (change_first test change xs) ≡ count_by counted xs
 count_by-change_first test counted change [] keeps = refl
 count_by-change_first test counted change (x ∷ xs) keeps =
     count-cond counted (test x) (change x ∷ xs) (x ∷ change_first test change xs) (count_by counted (x ∷ xs))
@@ -32,5 +35,7 @@ count_by-change_first test counted change (x ∷ xs) keeps =
     (rw (sum_by-cons, sum_by-cons, count_by-change_first test counted change xs keeps) refl)
 
 -- as many permission events are queued after a merge as before
-pub waiting-merged : (event : Event) (entries : List Entry) → count_by asks (change_first (takes event) (merged event) entries) ≡ count_by asks entries
-waiting-merged event entries = count_by-change_first (takes event) asks (merged event) entries (asks-merged event)
+pub waiting-merged : (event : Event) (entries : List Entry)
+    → count_by asks (change_first (takes event) (merged event) entries) ≡ count_by asks entries
+waiting-merged event entries = count_by-change_first (takes event) asks (merged event) entries
+    (asks-merged event)

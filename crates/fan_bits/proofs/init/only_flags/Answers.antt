@@ -8,5 +8,6 @@ pub returns-clause-found : goal.returns-clause-found
 unfolding known_from
 returns-clause-found c =
     let known = c.from_bits.ensures.known tt in
-    same_tests (is_some c.from_bits.result) (bit_and c.args.flags 0xf3f == c.args.flags) (λ some. eq-eqb _ _ (known.0 some)) (λ kept. known.1 (eqb-true _ _ kept))
+    same_tests (is_some c.from_bits.result) (bit_and c.args.flags 0xf3f == c.args.flags)
+    (λ some. eq-eqb _ _ (known.0 some)) (λ kept. known.1 (eqb-true _ _ kept))
     ∙ mask_has_only_flags c.args.flags (search rules)

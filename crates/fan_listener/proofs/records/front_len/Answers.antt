@@ -4,4 +4,5 @@ use Rattle.fan_listener.proofs.records.front_len.Goals as goal
 
 pub returns-clause-front : goal.returns-clause-front
 returns-clause-front c =
-    rw c.min.ensures (front_by_count (c.args.size / 24) c.args.size c.args.entries.now (omega arith) (omega arith))
+    rw c.min.ensures (front_by_count (c.args.size / 24) c.args.size c.args.entries.now
+    (omega arith) (omega arith))

@@ -9,8 +9,19 @@ pub returns : goal.returns
 unfolding record_bytes
 returns c =
     let same_fd = to_z-of_z w32 c.args.fd c.ranges.fd in
-    six_pieces c.args.out.now.items c.to_le_bytes.result (3 ∷ 0 ∷ []) c.to_le_bytes-2.result c.to_le_bytes-3.result c.to_le_bytes-4.result c.to_le_bytes-5.result
-    c.extend_from_slice.new.self.items c.extend_from_slice-2.new.self.items c.extend_from_slice-3.new.self.items c.extend_from_slice-4.new.self.items c.extend_from_slice-5.new.self.items c.extend_from_slice-6.new.self.items
-    c.in_ok-extend_from_slice.ensures.items c.in_ok-extend_from_slice-2.ensures.items c.in_ok-extend_from_slice-3.ensures.items c.in_ok-extend_from_slice-4.ensures.items c.in_ok-extend_from_slice-5.ensures.items c.in_ok-extend_from_slice-6.ensures.items
+    let fd = c.to_le_bytes-4.ensures ∙ ap (λ z. to_le_bytes w32 (cast_unsigned w32 z)) same_fd in
+    let len = c.to_le_bytes.ensures in
+    let part_len = c.to_le_bytes-2.ensures in
+    let mask = c.to_le_bytes-3.ensures in
+    let pid = c.to_le_bytes-5.ensures in
+    six_pieces c.args.out.now.items
+    c.to_le_bytes.result (3 ∷ 0 ∷ []) c.to_le_bytes-2.result
+    c.to_le_bytes-3.result c.to_le_bytes-4.result c.to_le_bytes-5.result
+    c.in_ok-extend_from_slice.ensures.items
+    c.in_ok-extend_from_slice-2.ensures.items
+    c.in_ok-extend_from_slice-3.ensures.items
+    c.in_ok-extend_from_slice-4.ensures.items
+    c.in_ok-extend_from_slice-5.ensures.items
+    c.in_ok-extend_from_slice-6.ensures.items
     ∙ ap (λ bytes. c.args.out.now.items ++ bytes)
-    (λ i. c.to_le_bytes.ensures i ++ (3 ∷ 0 ∷ []) ++ c.to_le_bytes-2.ensures i ++ c.to_le_bytes-3.ensures i ++ (c.to_le_bytes-4.ensures ∙ ap (λ fd. to_le_bytes w32 (cast_unsigned w32 fd)) same_fd) i ++ c.to_le_bytes-5.ensures i)
+    (λ i. len i ++ (3 ∷ 0 ∷ []) ++ part_len i ++ mask i ++ fd i ++ pid i)
