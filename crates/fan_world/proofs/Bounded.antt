@@ -32,36 +32,43 @@ within_from_slice_get (y ∷ ys) (suc place) x here = omega (arith, within_from_
 -- a bound that holds still holds a step later
 pub bounded_later : (steps : ℕ) (listeners : List ListenerState) → AreBounded steps listeners → AreBounded (steps + 1) listeners
 bounded_later steps listeners bounded = record {
-    count = omega (arith, bounded.count);
-    each = λ place other within. record {
-        entries = omega (arith, (bounded.each place other within).entries);
-        descriptors = omega (arith, (bounded.each place other within).descriptors) } }
+  count = omega (arith, bounded.count);
+  each = λ place other within. record {
+    entries = omega (arith, (bounded.each place other within).entries);
+    descriptors = omega (arith, (bounded.each place other within).descriptors);
+  };
+}
 
 -- a bound below another
 pub bounded_up : (steps limit : ℕ) (listeners : List ListenerState) → steps ≤ limit → AreBounded steps listeners → AreBounded limit listeners
 bounded_up steps limit listeners less bounded = record {
-    count = omega (arith, bounded.count);
-    each = λ place other within. record {
-        entries = omega (arith, (bounded.each place other within).entries);
-        descriptors = omega (arith, (bounded.each place other within).descriptors) } }
+  count = omega (arith, bounded.count);
+  each = λ place other within. record {
+    entries = omega (arith, (bounded.each place other within).entries);
+    descriptors = omega (arith, (bounded.each place other within).descriptors);
+  };
+}
 
 bounded_set : (steps place : ℕ) (listeners : List ListenerState) (listener : ListenerState) → IsBounded steps listener → AreBounded steps listeners → AreBounded steps (set listeners place listener)
 bounded_set steps place listeners listener here bounded = record {
-    count = simp length-set bounded.count;
-    each = All-set (IsBounded steps) listeners place listener here bounded.each }
+  count = simp length-set bounded.count;
+  each = All-set (IsBounded steps) listeners place listener here bounded.each;
+}
 
 -- one call of a listener makes one entry at most
 bounded_makes : (steps : ℕ) (old new : ListenerState) → IsBounded steps old → Makes 1 old new → IsBounded (steps + 1) new
 bounded_makes steps old new bounded makes = record {
-    entries = omega (arith, bounded.entries, makes.made);
-    descriptors = omega (arith, bounded.descriptors, makes.given) }
+  entries = omega (arith, bounded.entries, makes.made);
+  descriptors = omega (arith, bounded.descriptors, makes.given);
+}
 
 makes_less : (old new : ListenerState) → Makes 0 old new → Makes 1 old new
 makes_less old new makes = record {
-    made = omega (arith, makes.made);
-    given = omega (arith, makes.given);
-    same_flags = makes.same_flags;
-    same_limit = makes.same_limit }
+  made = omega (arith, makes.made);
+  given = omega (arith, makes.given);
+  same_flags = makes.same_flags;
+  same_limit = makes.same_limit;
+}
 
 bounded_at : (steps place : ℕ) (listeners : List ListenerState) (listener : ListenerState) → AreBounded steps listeners → slice_get listeners place ≡ Some listener → IsBounded steps listener
 bounded_at steps place listeners listener bounded here =
@@ -84,8 +91,9 @@ new_bounded steps flags = record { entries = omega arith; descriptors = omega ar
 
 bounded_new : (steps flags : ℕ) (listeners : List ListenerState) → AreBounded steps listeners → AreBounded (steps + 1) (listeners ++ new_listener flags queue_limit ∷ [])
 bounded_new steps flags listeners bounded = record {
-    count = simp length-append (omega (arith, bounded.count));
-    each = All-push (IsBounded (steps + 1)) listeners (new_listener flags queue_limit) (bounded_later steps listeners bounded).each (new_bounded steps flags) }
+  count = simp length-append (omega (arith, bounded.count));
+  each = All-push (IsBounded (steps + 1)) listeners (new_listener flags queue_limit) (bounded_later steps listeners bounded).each (new_bounded steps flags);
+}
 
 either : (b : Bool) (x y : Reply × List ListenerState) (steps : ℕ) → AreBounded steps x.1 → AreBounded steps y.1 → AreBounded steps (cond b x y).1
 either true x y steps first second = first
@@ -178,9 +186,9 @@ open_from : (found : Option ListenerState) (listener : ListenerState) → if_ope
 open_from None listener is = cc
 open_from (Some found) listener is =
     open_if found.closed found listener is where
-    open_if : (closed : Bool) (found listener : ListenerState) → cond closed None (Some found) ≡ Some listener → Some found ≡ Some listener
-    open_if true found listener is = cc
-    open_if false found listener is = is
+      open_if : (closed : Bool) (found listener : ListenerState) → cond closed None (Some found) ≡ Some listener → Some found ≡ Some listener
+      open_if true found listener is = cc
+      open_if false found listener is = is
 
 bounded_closed_at : (steps group : ℕ) (found : Option ListenerState) (listeners : List ListenerState) (marks : List Mark) → ((listener : ListenerState) → found ≡ Some listener → IsBounded steps listener) → AreBounded steps listeners → AreBounded (steps + 1) (closed_at found listeners marks group).1
 bounded_closed_at steps group None listeners marks at bounded = bounded_later steps listeners bounded

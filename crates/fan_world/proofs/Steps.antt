@@ -49,8 +49,8 @@ unfolding advanced
 advances finished number place access new accesses left listeners after outcome found is step kept leaves =
     let here : find (has_number number) accesses ≡ Some access = found_at (has_number number) accesses place access found is in
     rw here (
-        ap (λ (rest : List AccessState). (replies.Out outcome, after, rest)) (leaves ∙ accesses_after finished number place access new accesses found is ∙ ap (λ access. after_step number access accesses) (sym kept))
-        ∙ ap (λ (r : StepOutcome × List ListenerState × Option AccessState). (replies.Out r.0, r.1, after_step number r.2 accesses)) step)
+    ap (λ (rest : List AccessState). (replies.Out outcome, after, rest)) (leaves ∙ accesses_after finished number place access new accesses found is ∙ ap (λ access. after_step number access accesses) (sym kept))
+    ∙ ap (λ (r : StepOutcome × List ListenerState × Option AccessState). (replies.Out r.0, r.1, after_step number r.2 accesses)) step)
 
 -- no open access has the number
 pub advances_none : (number : ℕ) (accesses : List AccessState) (listeners : List ListenerState) → position (has_number number) accesses ≡ None → (replies.Refused errno.Esrch, listeners, accesses) ≡ advanced listeners accesses number

@@ -69,8 +69,8 @@ grouped listeners flags =
     if not (is_init_flags flags) then (replies.Refused errno.Einval, listeners)
     else (if has_handles flags then (replies.Refused errno.Einval, listeners)
     else (if nat_lt (count_by is_open listeners) most_groups
-        then (replies.Group (length listeners + 1), listeners ++ new_listener flags queue_limit ∷ [])
-        else (replies.Refused errno.Emfile, listeners)))
+    then (replies.Group (length listeners + 1), listeners ++ new_listener flags queue_limit ∷ [])
+    else (replies.Refused errno.Emfile, listeners)))
 
 -- the listener of a group, where the group is open
 abbrev pub if_open : Option ListenerState → Option ListenerState

@@ -47,14 +47,15 @@ impl Model for Access {
     ghost Value = { AccessState };
 
     ghost view = { λ a. record {
-        number = a.opening.number;
-        object = a.object;
-        pid = a.opening.pid;
-        tid = a.opening.tid;
-        marks = a.marks.items;
-        settled = a.settled;
-        waiting = a.waiting;
-        told = a.told } };
+      number = a.opening.number;
+      object = a.object;
+      pid = a.opening.pid;
+      tid = a.opening.tid;
+      marks = a.marks.items;
+      settled = a.settled;
+      waiting = a.waiting;
+      told = a.told;
+    } };
 
     ghost invariant = { λ a. IsSteady a.to_ask.items a.to_tell.items a.marks.items a.object a.settled a.waiting };
 }

@@ -6,9 +6,9 @@ ghost use Rattle.fan_world.specs.World.{begun, advanced};
 
 use super::access::{Access, Opening};
 use super::files::{File, find_object};
-use super::stepping::step;
 use super::marks::Mark;
 use super::step::{Reply, StepOutcome};
+use super::stepping::step;
 use fan_bits::Errno;
 use fan_io::NoMemory;
 use fan_listener::Listener;
@@ -77,7 +77,8 @@ pub(crate) fn advance(
 
 // Whether an access is finished after this outcome.
 fn is_finished(outcome: StepOutcome) -> bool
-    ensures { (access : AccessState) → kept_access outcome access ≡ (if result then None else Some access) }
+    ensures { (access : AccessState) → kept_access outcome access
+        ≡ (if result then None else Some access) }
 {
     match outcome {
         StepOutcome::Denied(_) | StepOutcome::Done => true,

@@ -21,7 +21,8 @@ const QUEUE_LIMIT: u32 = 16_384;
 
 /// The place of a group's listener in the list.
 pub(crate) fn place_of_group(listeners: &[Listener], group: u32) -> Option<usize>
-    ensures found { IfSome result (λ place. listener_at listeners.now group ≡ slice_get listeners.now place) }
+    ensures found { IfSome result (λ place. listener_at listeners.now group
+        ≡ slice_get listeners.now place) }
     ensures place { IfSome result (λ place. place ≡ group - 1) }
     ensures within { IfSome result (λ place. place < length listeners.now) }
     ensures none { IfNone result (listener_at listeners.now group ≡ None) }
@@ -38,7 +39,8 @@ pub(crate) fn place_of_group(listeners: &[Listener], group: u32) -> Option<usize
 
 /// The place of a group's listener, where the group is open.
 pub(crate) fn place_of_open_group(listeners: &[Listener], group: u32) -> Option<usize>
-    ensures found { IfSome result (λ place. open_listener listeners.now group ≡ slice_get listeners.now place) }
+    ensures found { IfSome result (λ place. open_listener listeners.now group
+        ≡ slice_get listeners.now place) }
     ensures place { IfSome result (λ place. place ≡ group - 1) }
     ensures within { IfSome result (λ place. place < length listeners.now) }
     ensures none { IfNone result (open_listener listeners.now group ≡ None) }
@@ -68,7 +70,8 @@ pub(crate) fn make_group(
     flags: u32,
 ) -> Result<Reply, NoMemory>
     requires { length listeners.old.items < 2 ^ 30 }
-    ensures ok { IfOk result (λ reply. (reply, listeners.new.items) ≡ grouped listeners.old.items flags) }
+    ensures ok { IfOk result (λ reply. (reply, listeners.new.items)
+        ≡ grouped listeners.old.items flags) }
     ensures err { OnErr result (listeners.new.items ≡ listeners.old.items) }
 {
     let Ok(init) = init_words(flags) else {
@@ -92,7 +95,8 @@ pub(crate) fn read_group(
     size: u32,
 ) -> Result<Reply, NoMemory>
     requires { AreBounded (2 ^ 30 - 1) listeners.old.items }
-    ensures ok { IfOk result (λ reply. (reply, listeners.new.items) ≡ read_from listeners.old.items group size) }
+    ensures ok { IfOk result (λ reply. (reply, listeners.new.items)
+        ≡ read_from listeners.old.items group size) }
     ensures err { OnErr result (listeners.new.items ≡ listeners.old.items) }
 {
     match place_of_group(listeners, group) {
@@ -157,7 +161,8 @@ fn errno_of(refusal: WriteRefused) -> Errno
 /// Closes a group and drops its marks. Takes no memory.
 #[tactic(auto, unfolding(crate::specs::World::closed_group))]
 pub(crate) fn close_group(listeners: &mut Vec<Listener>, marks: &mut Vec<Mark>, group: u32) -> Reply
-    ensures { (result, listeners.new.items, marks.new.items) ≡ closed_group listeners.old.items marks.old.items group }
+    ensures { (result, listeners.new.items, marks.new.items)
+        ≡ closed_group listeners.old.items marks.old.items group }
 {
     match place_of_open_group(listeners, group) {
         None => Reply::Refused(Errno::Ebadf),

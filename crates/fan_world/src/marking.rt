@@ -35,13 +35,9 @@ fn is_one_too_many(marks: &[Mark], mark: Mark, init: InitWords) -> bool
 }
 
 // Adds bits to a mark, or makes it where it is not one too many.
-fn add(
-    alloc: Global,
-    marks: &mut Vec<Mark>,
-    mark: Mark,
-    init: InitWords,
-) -> Result<Reply, NoMemory>
-    ensures ok { IfOk result (λ reply. (reply, marks.new.items) ≡ added marks.old.items mark init.bits) }
+fn add(alloc: Global, marks: &mut Vec<Mark>, mark: Mark, init: InitWords) -> Result<Reply, NoMemory>
+    ensures ok { IfOk result (λ reply. (reply, marks.new.items)
+        ≡ added marks.old.items mark init.bits) }
     ensures err { OnErr result (marks.new.items ≡ marks.old.items) }
 {
     if is_one_too_many(marks, mark, init) {

@@ -98,23 +98,29 @@ pub(crate) fn add_mark(alloc: Global, marks: &mut Vec<Mark>, mark: Mark) -> Resu
 }
 
 fn before(alloc: Global, marks: &[Mark], mark: Mark) -> Result<Vec<Mark>, NoMemory>
-    ensures { IfOk result (λ found. found.items ≡ filter (λ other. is_before other mark) marks.now) }
+    ensures { IfOk result (λ found. found.items ≡ filter
+        (λ other. is_before other mark) marks.now) }
 {
-    Ok(marks
-        .iter()
-        .copied()
-        .filter(|other| other.stands_before(mark))
-        .collect(alloc)?)
+    Ok(
+        marks
+            .iter()
+            .copied()
+            .filter(|other| other.stands_before(mark))
+            .collect(alloc)?,
+    )
 }
 
 fn behind(alloc: Global, marks: &[Mark], mark: Mark) -> Result<Vec<Mark>, NoMemory>
-    ensures { IfOk result (λ found. found.items ≡ filter (λ other. is_before mark other) marks.now) }
+    ensures { IfOk result (λ found. found.items ≡ filter
+        (λ other. is_before mark other) marks.now) }
 {
-    Ok(marks
-        .iter()
-        .copied()
-        .filter(|other| mark.stands_before(*other))
-        .collect(alloc)?)
+    Ok(
+        marks
+            .iter()
+            .copied()
+            .filter(|other| mark.stands_before(*other))
+            .collect(alloc)?,
+    )
 }
 
 /// Drops the marks of a group. Takes no memory.
@@ -133,11 +139,13 @@ pub(crate) fn groups_to_ask(
 ) -> Result<Vec<u32>, NoMemory>
     ensures { IfOk result (λ groups. groups.items ≡ asked_groups marks.now object) }
 {
-    Ok(marks
-        .iter()
-        .filter(|mark| mark.object == object && mark.mask.open_perm)
-        .map(|mark| mark.group)
-        .collect(alloc)?)
+    Ok(
+        marks
+            .iter()
+            .filter(|mark| mark.object == object && mark.mask.open_perm)
+            .map(|mark| mark.group)
+            .collect(alloc)?,
+    )
 }
 
 /// The groups that are told of an opening of an object, in order.
@@ -148,9 +156,11 @@ pub(crate) fn groups_to_tell(
 ) -> Result<Vec<u32>, NoMemory>
     ensures { IfOk result (λ groups. groups.items ≡ told_groups marks.now object) }
 {
-    Ok(marks
-        .iter()
-        .filter(|mark| mark.object == object && mark.mask.opened)
-        .map(|mark| mark.group)
-        .collect(alloc)?)
+    Ok(
+        marks
+            .iter()
+            .filter(|mark| mark.object == object && mark.mask.opened)
+            .map(|mark| mark.group)
+            .collect(alloc)?,
+    )
 }

@@ -16,7 +16,8 @@ pub(crate) fn step(
     access: &mut Access,
 ) -> Result<StepOutcome, NoMemory>
     requires { AreBounded (2 ^ 30) listeners.old.items }
-    ensures ok { IfOk result (λ outcome. (outcome, listeners.new.items, kept_access outcome access.new)
+    ensures ok { IfOk result
+        (λ outcome. (outcome, listeners.new.items, kept_access outcome access.new)
         ≡ access_step listeners.old.items access.old) }
     ensures listeners { OnErr result (listeners.new.items ≡ listeners.old.items) }
     ensures access { OnErr result (access.new ≡ access.old) }
@@ -58,7 +59,8 @@ fn look(listeners: &mut Vec<Listener>, access: &mut Access, asked: WaitingFor) -
 // The answer to an ask.
 #[tactic(auto, unfolding(crate::specs::Accesses::answer_from))]
 fn answer(listeners: &mut Vec<Listener>, asked: WaitingFor) -> Answer
-    ensures { (result, listeners.new.items) ≡ answer_from listeners.old.items asked.group asked.entry }
+    ensures { (result, listeners.new.items)
+        ≡ answer_from listeners.old.items asked.group asked.entry }
 {
     match place_of_group(listeners, asked.group) {
         None => Answer::Closed,
@@ -78,7 +80,8 @@ fn ask(
 ) -> Result<StepOutcome, NoMemory>
     requires bounded { AreBounded (2 ^ 30) listeners.old.items }
     requires unsettled { access.old.settled < length (asks access.old) }
-    ensures ok { IfOk result (λ outcome. (outcome, listeners.new.items, kept_access outcome access.new)
+    ensures ok { IfOk result
+        (λ outcome. (outcome, listeners.new.items, kept_access outcome access.new)
         ≡ asked_next group listeners.old.items access.old) }
     ensures listeners { OnErr result (listeners.new.items ≡ listeners.old.items) }
     ensures access { OnErr result (access.new ≡ access.old) }
@@ -101,11 +104,7 @@ fn ask(
 
 // Puts a permission event on the queue of a group.
 #[tactic(auto, unfolding(crate::specs::Accesses::put_to))]
-fn put_question(
-    listeners: &mut Vec<Listener>,
-    access: &Access,
-    group: u32,
-) -> Result<Put, NoMemory>
+fn put_question(listeners: &mut Vec<Listener>, access: &Access, group: u32) -> Result<Put, NoMemory>
     requires { AreBounded (2 ^ 30) listeners.old.items }
     ensures ok { IfOk result (λ put. (put, listeners.new.items)
         ≡ put_to listeners.old.items group (λ flags. asked_event flags access.now)) }
@@ -128,7 +127,8 @@ fn tell(
 ) -> Result<StepOutcome, NoMemory>
     requires bounded { AreBounded (2 ^ 30) listeners.old.items }
     requires untold { access.old.told < length (tells access.old) }
-    ensures ok { IfOk result (λ outcome. (outcome, listeners.new.items, kept_access outcome access.new)
+    ensures ok { IfOk result
+        (λ outcome. (outcome, listeners.new.items, kept_access outcome access.new)
         ≡ told_next group listeners.old.items access.old) }
     ensures listeners { OnErr result (listeners.new.items ≡ listeners.old.items) }
     ensures access { OnErr result (access.new ≡ access.old) }

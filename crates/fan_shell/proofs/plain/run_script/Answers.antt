@@ -29,6 +29,6 @@ returns-in-Ok-clause-complete g c = λ no_read_fault no_write_fault.
     (λ bytes. length bytes ≤ most_script → IsValid bytes → Completes (g.K.Sink.held c.args.sink.now) (g.K.Sink.held c.write_transcript.new.sink) bytes c.write_transcript.result)
     c.in-Ok.ensures.whole c.in-Ok.ensures.end
     (λ most valid. completes c.write_transcript.result _ _ c.in-Ok.script.items c.write_transcript.ensures.others
-        (λ fault. no_write_fault (c.write_transcript.ensures.fault fault))
-        (rw c.deref.ensures.value at c.write_transcript.ensures.told)
-        (rw c.deref.ensures.value at c.write_transcript.ensures.status) valid)
+    (λ fault. no_write_fault (c.write_transcript.ensures.fault fault))
+    (rw c.deref.ensures.value at c.write_transcript.ensures.told)
+    (rw c.deref.ensures.value at c.write_transcript.ensures.status) valid)

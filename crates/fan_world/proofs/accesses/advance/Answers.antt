@@ -12,6 +12,7 @@ returns-clause-ok c =
     let accesses = c.args.accesses.now.items in
     let new = c.step.new.access in
     let left : c.if-is_finished.accesses.items ≡ cond c.is_finished.result (remove (set accesses c.in-Some.place new) c.in-Some.place) (set accesses c.in-Some.place new) = elim c.if-is_finished.branch [
-        then-is_finished w ↦ rw (w.accesses-is, w.if-is_finished.true) w.remove.ensures.items
-      | else-is_finished w ↦ rw (w.accesses-is, w.if-is_finished.false) refl ] in
+      | then-is_finished w ↦ rw (w.accesses-is, w.if-is_finished.true) w.remove.ensures.items
+      | else-is_finished w ↦ rw (w.accesses-is, w.if-is_finished.false) refl
+    ] in
     advances c.is_finished.result c.args.number c.in-Some.place c.index_mut-access.result.now new accesses _ c.args.listeners.now.items _ c.in_ok-outcome.outcome (sym (rw c.deref.ensures.value at c.in-Some.ensures.found)) (search rules) c.in_ok-outcome.ensures.ok (c.is_finished.ensures new) left

@@ -22,4 +22,3 @@ pub returns-in-Err-Small-clause-ok : goal.returns-in-Err-Small-clause-ok
 returns-in-Err-Small-clause-ok c =
     let here : slice_get c.args.listeners.now.items c.args.place ≡ Some c.index_mut-listener.result.now = search (rules, slice_get_read) in
     read_refused c.args.place c.args.size _ c.index_mut-listener.result.now _ refusals.Small errno.Einval here c.in-Err-Small.ensures.err (rw c.in-Err-Small.field-0-is at (c.in-Err-Small.ensures.refused (λ none. absurd cc))) refl
-
