@@ -17,6 +17,15 @@ pub struct Opening {
     pub tid: u32,
 }
 
+impl Opening {
+    /// The opening of a number by a process and a thread of it.
+    pub fn new(number: u32, pid: u32, tid: u32) -> Opening
+        ensures { result ≡ record { number = number; pid = pid; tid = tid } }
+    {
+        Opening { number, pid, tid }
+    }
+}
+
 /// An ask that waits for its answer: the group, and the entry of its permission event.
 #[derive(Clone, Copy, Debug, PartialEq, Eq)]
 pub struct WaitingFor {

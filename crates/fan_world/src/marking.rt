@@ -27,7 +27,8 @@ fn is_bad(class: Class, mask: MarkMask) -> bool
 
 // Whether a new mark is one too many.
 fn is_one_too_many(marks: &[Mark], mark: Mark, init: InitWords) -> bool
-    ensures { result ≡ is_too_many (mark_of marks.now mark.group mark.object) marks.now mark.group init.bits }
+    ensures { result
+        ≡ is_too_many (mark_of marks.now mark.group mark.object) marks.now mark.group init.bits }
 {
     find_mark(marks, mark.group, mark.object).is_none()
         && !init.unlimited_marks()

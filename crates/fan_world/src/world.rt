@@ -112,11 +112,7 @@ impl World {
                 &self.marks,
                 &mut self.accesses,
                 &mut self.last_access,
-                Opening {
-                    number: *access,
-                    pid: *pid,
-                    tid: *tid,
-                },
+                Opening::new(*access, *pid, *tid),
                 path.as_slice(),
             )?,
             Step::Advance { access } => advance(&mut self.listeners, &mut self.accesses, *access)?,
