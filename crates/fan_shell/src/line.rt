@@ -13,7 +13,7 @@ use std::alloc::{AllocError, Global};
 pub enum Line {
     /// One step of the machine.
     One(Step),
-    /// The single steps of an access, up to the one that ends it.
+    /// The single steps of an access, up to an answer that ends the run.
     Run(u32),
 }
 

@@ -1,6 +1,6 @@
-// The commands of the program that wait for nobody.
+// The top call: the commands `script` and, for all other words, the usage line.
 ghost use Rattle.std.specs.Prelude.{◌≡◌, ◌≢◌, ◌⊎◌, ◌↔◌, ◌≤◌, IsTrue, List, ℕ, map, length, string_bytes, IfSome};
-ghost use Rattle.std.specs.Io.KnownBytes.{Appends, IsAtEnd, Keeps};
+ghost use Rattle.std.specs.Io.KnownBytes.{Appends, IsAtEnd};
 ghost use Rattle.fan_io.specs.Bytes.{AppendsFront, GaveAtMost, GaveMore};
 ghost use Rattle.fan_io.specs.Faults.{Rose};
 ghost use Rattle.fan_shell.specs.Outcome.{IsScript, most_script, usage_line, Tells, TellsFront, Completes, EndsScript, EndsUsage};

@@ -1,4 +1,4 @@
-// `run`: the single steps of an access, up to the one that ends it.
+// `run`: the single steps of an access, up to an answer that ends the run.
 ghost use Rattle.std.specs.Prelude.{◌≡◌, ◌+◌, ◌<◌, ◌≤◌, ◌^◌, ◌++◌, IfOk, OnOk};
 ghost use Rattle.fan_world.specs.Run.{ends_run, is_last, ran, most_answers};
 ghost use Rattle.fan_world.specs.World.{next};
@@ -80,7 +80,7 @@ fn push_more(
     push_more(alloc, world, access, left - 1, out)
 }
 
-/// Runs an access to its end, and puts the answers of its single steps at the end.
+/// Does the single steps of an access until it waits or is finished, and puts the answers of its single steps at the end.
 #[tactic(auto, using(crate::proofs::RunLemmas::all_end, crate::proofs::RunLemmas::state_ends, crate::proofs::RunLemmas::all_go_on), unfolding(fan_world::specs::Run::most_answers))]
 pub(crate) fn push_run(
     alloc: Global,

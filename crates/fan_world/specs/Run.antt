@@ -22,7 +22,7 @@ is_last (outcomes.Merged group) = false
 is_last (outcomes.Overflow group) = false
 is_last outcomes.Done = true
 
--- an answer that ends a run: the access is finished, or was not open
+-- an answer that ends a run: the access waits or is finished, or was not open
 abbrev pub ends_run : Reply → Bool
 ends_run (replies.Out outcome) = is_last outcome
 ends_run (replies.Refused refusal) = true

@@ -146,7 +146,7 @@ advanced_at (Some access) listeners accesses number =
 unfoldable pub advanced : List ListenerState → List AccessState → ℕ → Reply × List ListenerState × List AccessState
 advanced listeners accesses number = advanced_at (find (has_number number) accesses) listeners accesses number
 
--- why a read is refused
+-- why a read is refused; its definition never says that memory ran out
 abbrev pub read_errno : ReadRefused → Errno
 read_errno reads.Closed = errno.Ebadf
 read_errno reads.Again = errno.Eagain

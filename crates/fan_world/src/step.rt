@@ -3,7 +3,7 @@ use super::marks::MarkMask;
 use fan_bits::Errno;
 use fan_io::Items;
 
-/// What one line of a scenario asks of the machine, or one of the steps that `run` repeats.
+/// One step of the machine: what a line of a script asks for. `run` repeats `Advance`.
 #[derive(Debug, Drop)]
 pub enum Step {
     /// Makes a regular file at a path.
@@ -75,7 +75,7 @@ pub enum StepOutcome {
     Allowed(u32),
     /// The group denied the access, which is finished.
     Denied(u32),
-    /// The group is closed and gave no answer, and the access goes on.
+    /// The group is closed: it gave no answer, or is not asked or told, and the access goes on.
     Closed(u32),
     /// The permission event was dropped at the limit of the group's queue, and the access goes on.
     Full(u32),

@@ -14,7 +14,7 @@ use fan_listener::Listener;
 use std::alloc::Global;
 use std::marker::Model;
 
-/// The machine, which does one step of a scenario at a time.
+/// The machine, which does one step of a script at a time.
 #[derive(Drop)]
 pub struct World {
     alloc: Global,
