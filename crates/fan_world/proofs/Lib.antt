@@ -2,7 +2,11 @@ pub mod Ahead
 pub mod Bounded
 pub mod CauseLemmas
 pub mod OpenAccess
+pub mod Opens
 pub mod Passing
+pub mod Rising
+pub mod RunsEnd
+pub mod Sound
 pub mod Steps
 pub mod Verdicts
 pub mod WholeAccess
