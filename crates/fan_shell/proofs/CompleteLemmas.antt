@@ -1,15 +1,15 @@
 -- A script of good lines is answered to its end.
-use Rattle.std.proofs.Common.{◌≡◌, ◌⊎◌, ℕ, ◌+◌, ◌<◌, ◌≤◌, List, [], ◌∷◌, ◌++◌, Option, Some, None, length, refl, sym, ap, ◌∙◌, inl, inr, arith, length-append}
+use Rattle.std.proofs.Common.{◌≡◌, ℕ, ◌+◌, ◌≤◌, List, [], ◌∷◌, ◌++◌, Option, Some, None, length, refl, sym, ap, ◌∙◌, inl, inr, arith, length-append}
 use Rattle.std.specs.Prelude.{IfSome}
-use Rattle.std.specs.Io.KnownBytes.{Appends, Consumes}
+use Rattle.std.specs.Io.KnownBytes.{Appends}
 use Rattle.fan_io.specs.Bytes.{GaveMore}
 use Rattle.fan_world.specs.World.{WorldState, opening_world}
 use Rattle.fan_shell.specs.declared.line.Line.{Line}
 use Rattle.fan_shell.specs.declared.status.Status.{Status}
 use Rattle.fan_shell.specs.declared.status.Status.TheVariants as statuses
-use Rattle.fan_shell.specs.Outcome.{Tells, Completes}
+use Rattle.fan_shell.specs.Outcome.{Completes}
 use Rattle.fan_shell.specs.Playing.{play}
-use Rattle.fan_shell.specs.Script.{Taken, AllTaken, AreLines, IsValid, Transcript, printed, answered, lines_of}
+use Rattle.fan_shell.specs.Script.{AllTaken, AreLines, IsValid, printed, answered, lines_of}
 use Rattle.fan_shell.specs.Status.{IsTold, IsToldOrCut}
 use Rattle.fan_shell.proofs.TranscriptLemmas.{transcript_of, tells_played}
 

@@ -1,5 +1,5 @@
 -- Playing a script line by line, and what its transcript is.
-use Rattle.std.proofs.Common.{◌≡◌, ℕ, zero, suc, ◌+◌, ◌-◌, ◌<◌, ◌≤◌, List, [], ◌∷◌, ◌++◌, Bool, true, false, cond, Option, Some, None, length, refl, sym, ap, ◌∙◌, arith, rules, append_assoc, append-nil}
+use Rattle.std.proofs.Common.{◌≡◌, ℕ, ◌+◌, List, [], ◌∷◌, ◌++◌, Option, Some, None, length, refl, sym, ap, ◌∙◌, append_assoc, append-nil}
 use Rattle.std.proofs.lemmas.List.{nil_from_length}
 use Rattle.std.specs.Io.KnownBytes.{Appends}
 use Rattle.std.proofs.KnownBytes.{Appends-trans}
@@ -9,9 +9,9 @@ use Rattle.fan_shell.specs.declared.line.Line.{Line}
 use Rattle.fan_shell.specs.declared.status.Status.{Status}
 use Rattle.fan_shell.specs.declared.status.Status.TheVariants as statuses
 use Rattle.fan_shell.specs.Lines.{LineOf}
-use Rattle.fan_shell.specs.Playing.{turn_by, turn, after_turn, played, play}
+use Rattle.fan_shell.specs.Playing.{turn, after_turn, played, play}
 use Rattle.fan_shell.specs.Reading.{line_at}
-use Rattle.fan_shell.specs.Script.{answered, bad_line_text, lines_of}
+use Rattle.fan_shell.specs.Script.{lines_of}
 use Rattle.fan_shell.proofs.LineLemmas.{line_takes, line_again}
 
 -- a line that was found is the one that is read

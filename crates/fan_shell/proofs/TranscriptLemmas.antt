@@ -1,13 +1,12 @@
 -- The transcript of a script is what playing it prints, and there is no other.
-use Rattle.std.proofs.Common.{◌≡◌, ℕ, ◌+◌, List, [], ◌∷◌, ◌++◌, Bool, true, false, cond, Option, Some, None, refl, sym, ap, ◌∙◌}
+use Rattle.std.proofs.Common.{◌≡◌, ℕ, ◌+◌, List, [], ◌∷◌, ◌++◌, Option, Some, None, refl, sym, ap, ◌∙◌}
 use Rattle.std.specs.Io.KnownBytes.{Appends}
 use Rattle.fan_io.specs.Bytes.{AppendsFront}
 use Rattle.fan_world.specs.World.{WorldState, opening_world}
 use Rattle.fan_shell.specs.declared.line.Line.{Line}
 use Rattle.fan_shell.specs.declared.status.Status.{Status}
-use Rattle.fan_shell.specs.Lines.{LineOf}
 use Rattle.fan_shell.specs.Outcome.{Tells, TellsFront}
-use Rattle.fan_shell.specs.Playing.{turn_by, turn, after_turn, played, play}
+use Rattle.fan_shell.specs.Playing.{turn, played, play}
 use Rattle.fan_shell.specs.Reading.{line_at}
 use Rattle.fan_shell.specs.Script.{Taken, AllTaken, Transcript, printed, answered, lines_of}
 use Rattle.fan_shell.proofs.LineLemmas.{line_takes, line_again}

@@ -1,15 +1,13 @@
 -- Entries and descriptors grow by one a step at most.
-use Rattle.std.proofs.Common.{◌≡◌, ℕ, zero, suc, ◌+◌, ◌-◌, ◌<◌, ◌≤◌, List, [], ◌∷◌, ◌++◌, Bool, true, false, cond, ltb, not, Option, Some, None, Result, Ok, Err, length, get_or, refl, sym, ap, ◌∙◌, arith, set, length-append, length-set}
-use Rattle.std.specs.Prelude.{slice_get, slice_set, find, count_by}
+use Rattle.std.proofs.Common.{◌≡◌, ℕ, zero, suc, ◌+◌, ◌-◌, ◌<◌, ◌≤◌, List, [], ◌∷◌, ◌++◌, Bool, true, false, cond, ltb, not, Option, Some, None, Result, Ok, Err, length, get_or, refl, arith, set, length-append, length-set}
+use Rattle.std.specs.Prelude.{slice_get, find, count_by}
 use Rattle.std.proofs.lemmas.List.Elements.{All-set, All-push}
 use Rattle.std.proofs.lemmas.Option.{get_or_from_slice_get}
 use Rattle.fan_bits.specs.Words.{is_init_flags, has_handles}
-use Rattle.fan_bits.specs.declared.errno.Errno.TheVariants as errno
 use Rattle.fan_listener.specs.declared.answers.Answered.{Answered}
 use Rattle.fan_listener.specs.declared.answers.ReadRefused.{ReadRefused}
 use Rattle.fan_listener.specs.declared.answers.WriteRefused.{WriteRefused}
 use Rattle.fan_listener.specs.declared.event.Event.{Event}
-use Rattle.fan_listener.specs.declared.queue.Put.{Put}
 use Rattle.fan_listener.specs.Bounds.{Makes}
 use Rattle.fan_listener.specs.ListenerState.{ListenerState, new_listener}
 use Rattle.fan_listener.specs.Queue.{put}
@@ -19,7 +17,6 @@ use Rattle.fan_listener.proofs.Bounds.{makes-put, makes-read_of, makes-written, 
 use Rattle.fan_world.specs.declared.access.WaitingFor.{WaitingFor}
 use Rattle.fan_world.specs.declared.marks.Mark.{Mark}
 use Rattle.fan_world.specs.declared.step.Reply.{Reply}
-use Rattle.fan_world.specs.declared.step.Reply.TheVariants as replies
 use Rattle.fan_world.specs.Accesses.{AccessState, access_step, step_by, looked, asked_next, told_next, answer_at, answer_from, put_at, put_to, asked_event, told_event, asks, tells, has_number, listener_at, with_listener}
 use Rattle.fan_world.specs.Bounds.{IsBounded, AreBounded}
 use Rattle.fan_world.specs.World.{is_open, most_groups, queue_limit, grouped, if_open, open_listener, advanced, advanced_at, read_answer, read_at, read_from, write_answer, written_at, written_to, closed_at, closed_group}

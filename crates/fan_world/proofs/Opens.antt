@@ -1,19 +1,15 @@
 -- Which groups are open: how many there are, and what the calls of a listener leave of that.
 use native.Mathlib.Numerals.{unary_clauses}
-use Rattle.std.proofs.Common.{◌≡◌, ℕ, zero, suc, ◌+◌, ◌-◌, ◌≤◌, List, [], ◌∷◌, ◌++◌, Bool, true, false, cond, eqb, Option, Some, None, Result, Ok, Err, length, map, refl, sym, ap, ◌∙◌, arith, set, nat_lt, nat_le, ◌==◌, take, drop, not}
-use Rattle.std.specs.Prelude.{slice_get, slice_set, filter, count_by, IfOk, find, option_map}
+use Rattle.std.proofs.Common.{◌≡◌, ℕ, zero, suc, ◌+◌, ◌≤◌, List, [], ◌∷◌, ◌++◌, Bool, true, false, cond, eqb, Option, Some, None, Result, length, map, refl, sym, ap, ◌∙◌, arith, set, nat_lt, ◌==◌, take, drop, not}
+use Rattle.std.specs.Prelude.{slice_get, filter, count_by, IfOk}
 use Rattle.std.specs.Int.{from_le_bytes, w32}
 use Rattle.std.specs.Set.{is_member}
 use Rattle.std.proofs.lemmas.Bool.Decides.{nat_tests}
 use Rattle.std.proofs.lemmas.List.Sums.{length-filter}
 use Rattle.fan_listener.specs.declared.event.Event.{Event}
-use Rattle.fan_listener.specs.declared.queue.Body.TheVariants.{Told, Lost}
 use Rattle.fan_listener.specs.declared.queue.Entry.{Entry}
 use Rattle.fan_listener.specs.declared.queue.Put.{Put}
 use Rattle.fan_listener.specs.declared.answers.Answer.{Answer}
-use Rattle.fan_listener.specs.declared.answers.Answered.{Answered}
-use Rattle.fan_listener.specs.declared.answers.ReadRefused.{ReadRefused}
-use Rattle.fan_listener.specs.declared.answers.WriteRefused.{WriteRefused}
 use Rattle.fan_listener.specs.ListenerState.{ListenerState}
 use Rattle.fan_listener.specs.Queue.{put, put_lost, put_told, queued, is_full, is_lost, takes, first_number}
 use Rattle.fan_listener.specs.Records.{read_of, read_queue, read_front, record_len}

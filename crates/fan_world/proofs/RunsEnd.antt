@@ -1,7 +1,6 @@
 -- That each run ends: each single step of an access but the last leaves it less to do.
 use Rattle.std.proofs.Common.{◌≡◌, ℕ, zero, suc, ◌+◌, ◌-◌, ◌*◌, ◌<◌, ◌≤◌, List, [], ◌∷◌, Bool, true, false, cond, eqb, Option, Some, None, length, MatchBool, inl, inr, refl, arith}
 use Rattle.std.specs.Prelude.{slice_get, find}
-use Rattle.std.proofs.lemmas.Bool.{eqb-true}
 use Rattle.std.proofs.lemmas.Option.{slice_get_within, same_Some}
 use Rattle.fan_bits.specs.declared.errno.Errno.TheVariants as errno
 use Rattle.fan_listener.specs.declared.answers.Answer.{Answer}
@@ -14,9 +13,7 @@ use Rattle.fan_world.specs.declared.access.WaitingFor.{WaitingFor}
 use Rattle.fan_world.specs.declared.step.Reply.{Reply}
 use Rattle.fan_world.specs.declared.step.Reply.TheVariants as replies
 use Rattle.fan_world.specs.declared.step.Step.{Step}
-use Rattle.fan_world.specs.declared.step.Step.TheVariants as steps
 use Rattle.fan_world.specs.declared.step.StepOutcome.{StepOutcome}
-use Rattle.fan_world.specs.declared.step.StepOutcome.TheVariants as outcomes
 use Rattle.fan_world.specs.Accesses.{AccessState, asks, tells, answer_from, put_to, asked_event, told_event, settled_one, told_one, after_ask, after_answer, after_tell, looked, asked_next, told_next, step_by, access_step, has_number}
 use Rattle.fan_world.specs.Run.{is_last, ends_run, ran, most_answers, EndsOnce, IsWholeRun, after_steps}
 use Rattle.fan_world.specs.World.{WorldState, opening_world, next, most_groups, after_step, advanced}

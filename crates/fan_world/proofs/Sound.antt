@@ -1,20 +1,19 @@
 -- What holds of each state that steps make of the opening one: marks are those of open groups, in order, and so
 -- no access has more groups to ask or to tell than may be open.
 use native.Mathlib.Numerals.{unary_clauses}
-use Rattle.std.proofs.Common.{◌≡◌, ℕ, zero, suc, ◌+◌, ◌-◌, ◌<◌, ◌≤◌, List, [], ◌∷◌, ◌++◌, Bool, true, false, cond, ltb, eqb, not, ◌==◌, ◌&&◌, ◌||◌, Option, Some, None, Result, Ok, Err, length, map, refl, sym, ap, subst, ◌∙◌, arith, set}
-use Rattle.std.specs.Prelude.{slice_get, slice_set, All, filter, find, count_by, nat_lt, IfOk, IfSome}
+use Rattle.std.proofs.Common.{◌≡◌, ℕ, zero, suc, ◌+◌, ◌-◌, ◌<◌, ◌≤◌, List, [], ◌∷◌, ◌++◌, Bool, true, false, cond, eqb, not, ◌==◌, ◌&&◌, ◌||◌, Option, Some, None, Result, Ok, Err, length, map, refl, sym, ap, subst, ◌∙◌, arith, set}
+use Rattle.std.specs.Prelude.{slice_get, All, filter, find, count_by, nat_lt, IfOk, IfSome}
 use Rattle.std.specs.List.{list_any}
 use Rattle.std.specs.Set.{is_member}
 use Rattle.std.proofs.lemmas.Bool.{eqb-true, ltb-true}
 use Rattle.std.proofs.lemmas.Bool.Decides.{nat_tests}
 use Rattle.std.proofs.lemmas.Cmp.{nat_eq_equiv}
-use Rattle.std.proofs.lemmas.List.{length-map, map-append, map-set}
+use Rattle.std.proofs.lemmas.List.{map-append, map-set}
 use Rattle.std.proofs.lemmas.List.Elements.{All-append, All-cons, All-filter, All-head, All-nil, All-push, All-tail, All-weaker, filter_passes}
-use Rattle.std.proofs.lemmas.List.Sums.{length-filter, sum_by-append}
+use Rattle.std.proofs.lemmas.List.Sums.{sum_by-append}
 use Rattle.std.proofs.lemmas.Map.Made.{length-le_from_is_member}
 use Rattle.std.proofs.lemmas.Option.{same_Some}
 use Rattle.fan_bits.specs.Words.{class_of, is_init_flags, has_handles}
-use Rattle.fan_bits.specs.declared.class.Class.{Class}
 use Rattle.fan_bits.specs.declared.errno.Errno.TheVariants as errno
 use Rattle.fan_listener.specs.declared.answers.Answer.{Answer}
 use Rattle.fan_listener.specs.declared.answers.Answer.TheVariants as answers
@@ -38,12 +37,11 @@ use Rattle.fan_world.specs.declared.step.Reply.{Reply}
 use Rattle.fan_world.specs.declared.step.Reply.TheVariants as replies
 use Rattle.fan_world.specs.declared.step.Step.{Step}
 use Rattle.fan_world.specs.declared.step.Step.TheVariants as steps
-use Rattle.fan_world.specs.declared.step.StepOutcome.{StepOutcome}
-use Rattle.fan_world.specs.Accesses.{AccessState, asks, tells, beginning, listener_at, with_listener, put_at, put_to, answer_at, answer_from, asked_event, told_event, settled_one, told_one, after_ask, after_answer, looked, asked_next, told_next, step_by, access_step, has_number}
+use Rattle.fan_world.specs.Accesses.{AccessState, asks, tells, beginning, listener_at, with_listener, put_at, put_to, answer_at, answer_from, asked_event, told_event, after_ask, after_answer, looked, asked_next, told_next, step_by, access_step, has_number}
 use Rattle.fan_world.specs.Files.{object_at}
 use Rattle.fan_world.specs.Marks.{is_before, mark_of, joined, with_mark, without_group}
 use Rattle.fan_world.specs.Run.{after_steps}
-use Rattle.fan_world.specs.World.{WorldState, opening_world, next, grouped, is_open, most_groups, queue_limit, if_open, open_listener, is_bad_mask, is_too_many, added, added_at, marked, marked_at, begun, begun_at, after_step, advanced, advanced_at, read_answer, read_at, read_from, write_answer, written_at, written_to, closed_at, closed_group}
+use Rattle.fan_world.specs.World.{WorldState, opening_world, next, grouped, is_open, most_groups, queue_limit, if_open, open_listener, is_bad_mask, is_too_many, added_at, marked, marked_at, begun, begun_at, after_step, advanced, advanced_at, read_answer, read_at, read_from, write_answer, written_at, written_to, closed_at, closed_group}
 use Rattle.fan_world.proofs.Opens.{opened, opens, numbers, length-numbers, length-numbers_closed, is_member-numbers, slice_get-set_other, slice_get-append, opens-with_listener, opened-put, opened-answer_of, opened-read_of, opened-written}
 use Rattle.fan_world.proofs.Rising.{Rises, Rises-filter, Rises-put, Rises-distinct}
 
@@ -153,8 +151,8 @@ AreSound-with_mark groups marks mark stands sound =
     record {
       few = sound.few;
       each = All-append P (front ++ joined old mark ∷ []) back
-      (All-push P front (joined old mark) (All-filter (λ other. is_before other mark) P marks sound.each) (Stands-joined groups old mark stands))
-      (All-filter (λ other. is_before mark other) P marks sound.each);
+          (All-push P front (joined old mark) (All-filter (λ other. is_before other mark) P marks sound.each) (Stands-joined groups old mark stands))
+          (All-filter (λ other. is_before mark other) P marks sound.each);
       rises = Rises-joined marks old mark sound.rises;
     }
 

@@ -1,5 +1,5 @@
 -- What one step of the machine does at a place, over plain values.
-use Rattle.std.proofs.Common.{◌≡◌, ℕ, zero, suc, ◌+◌, List, [], ◌∷◌, Bool, true, false, cond, Option, Some, None, Result, Ok, Err, refl, sym, ap, ◌∙◌, set, get_or}
+use Rattle.std.proofs.Common.{◌≡◌, ℕ, zero, suc, ◌+◌, List, [], ◌∷◌, Bool, true, false, cond, Option, Some, None, Err, refl, sym, ap, ◌∙◌, set, get_or}
 use Rattle.std.specs.Prelude.{slice_get, slice_set, find, position, remove, IfSome}
 use Rattle.fan_bits.specs.declared.errno.Errno.{Errno}
 use Rattle.fan_bits.specs.declared.errno.Errno.TheVariants as errno
@@ -8,7 +8,6 @@ use Rattle.fan_listener.specs.declared.answers.WriteRefused.{WriteRefused}
 use Rattle.fan_listener.specs.ListenerState.{ListenerState}
 use Rattle.fan_listener.specs.Records.{read_of}
 use Rattle.fan_listener.specs.Responses.{written}
-use Rattle.fan_world.specs.declared.step.Reply.{Reply}
 use Rattle.fan_world.specs.declared.step.Reply.TheVariants as replies
 use Rattle.fan_world.specs.declared.step.StepOutcome.{StepOutcome}
 use Rattle.fan_listener.proofs.FirstLemmas.{find_none, found_at, changed_at, removed_at}

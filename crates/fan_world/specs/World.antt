@@ -1,5 +1,5 @@
 -- The machine: its state, and what one step makes of it. A refused step changes nothing.
-use Rattle.std.specs.Prelude.{ℕ, ◌+◌, ◌-◌, ◌==◌, ◌&&◌, ◌||◌, Bool, true, false, not, List, [], ◌∷◌, ◌++◌, Option, Some, None, Result, Ok, Err, nat_lt, if◌then◌else◌, length, count_by, find}
+use Rattle.std.specs.Prelude.{ℕ, ◌+◌, ◌==◌, ◌&&◌, ◌||◌, Bool, true, false, not, List, [], ◌∷◌, ◌++◌, Option, Some, None, Result, Ok, Err, nat_lt, if◌then◌else◌, length, count_by, find}
 use Rattle.fan_bits.specs.declared.class.Class.{Class}
 use Rattle.fan_bits.specs.declared.class.Class.TheVariants as classes
 use Rattle.fan_bits.specs.declared.errno.Errno.{Errno}
@@ -22,7 +22,6 @@ use Rattle.fan_world.specs.declared.step.Step.{Step}
 use Rattle.fan_world.specs.declared.step.Step.TheVariants as steps
 use Rattle.fan_world.specs.declared.step.Reply.{Reply}
 use Rattle.fan_world.specs.declared.step.Reply.TheVariants as replies
-use Rattle.fan_world.specs.declared.step.StepOutcome.{StepOutcome}
 use Rattle.fan_world.specs.Accesses.{AccessState, access_step, beginning, has_number, listener_at, with_listener}
 use Rattle.fan_world.specs.Files.{greatest_object, object_at}
 use Rattle.fan_world.specs.Marks.{mark_of, with_mark, without_group}

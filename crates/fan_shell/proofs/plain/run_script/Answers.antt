@@ -1,9 +1,6 @@
 use Rattle.std.proofs.Common.{◌≤◌, length}
 use Rattle.std.proofs.KnownBytes.{Consumes-whole}
-use Rattle.fan_io.specs.Bytes.{AppendsFront}
-use Rattle.fan_shell.specs.declared.status.Status.{Status}
 use Rattle.fan_shell.specs.Outcome.{most_script, Tells, TellsFront, Completes}
-use Rattle.fan_shell.specs.Playing.{play}
 use Rattle.fan_shell.specs.Script.{IsValid}
 use Rattle.fan_shell.proofs.CompleteLemmas.{completes}
 use Rattle.fan_shell.proofs.TranscriptLemmas.{tells_played, tells_front}

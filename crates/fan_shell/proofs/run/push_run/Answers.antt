@@ -1,6 +1,6 @@
-use Rattle.std.proofs.Common.{◌≡◌, Bool, false, rules, arith, lit<, sym, ◌∙◌, ap}
+use Rattle.std.proofs.Common.{◌≡◌, false, rules, lit<}
 use Rattle.fan_world.specs.declared.step.Step.TheVariants as steps
-use Rattle.fan_world.specs.Run.{ends_run, ran, most_answers}
+use Rattle.fan_world.specs.Run.{ends_run, most_answers}
 use Rattle.fan_world.specs.World.{next}
 use Rattle.fan_shell.proofs.RunLemmas.{state_goes_on}
 use Rattle.fan_shell.proofs.run.push_run.Goals as goal

@@ -1,11 +1,8 @@
-use Rattle.std.proofs.Common.{◌≡◌, ◌≤◌, ◌++◌, List, ℕ, [], ◌∷◌, Some, None, true, length, ap, sym, ◌∙◌, append-nil, arith, rules}
-use Rattle.std.specs.Io.KnownBytes.{Appends}
+use Rattle.std.proofs.Common.{◌≡◌, ◌≤◌, ◌++◌, List, ℕ, [], Some, None, length, ap, sym, ◌∙◌, append-nil, arith, rules}
 use Rattle.std.proofs.KnownBytes.{Appends-nil, Appends-trans}
 use Rattle.std.proofs.lemmas.Bool.Decides.{nat_tests}
 use Rattle.fan_shell.specs.declared.status.Status.{Status}
-use Rattle.fan_shell.specs.declared.status.Status.TheVariants as statuses
 use Rattle.fan_shell.specs.Playing.{turn, play}
-use Rattle.fan_shell.specs.Script.{lines_of}
 use Rattle.fan_shell.proofs.PlayLemmas.{leads_start, leads_more, leads_bad, leads_end, text_here, front_behind, front_whole}
 use Rattle.fan_shell.proofs.script.write_transcript.Goals as goal
 

@@ -1,4 +1,4 @@
-use Rattle.std.proofs.Common.{◌≡◌, List, cond, get_or, set, refl, sym, rules}
+use Rattle.std.proofs.Common.{◌≡◌, cond, set, refl, sym, rules}
 use Rattle.std.specs.Prelude.{remove}
 use Rattle.fan_world.proofs.Steps.{advances, advances_none}
 use Rattle.fan_world.proofs.accesses.advance.Goals as goal

@@ -1,10 +1,8 @@
-use Rattle.std.proofs.Common.{◌≡◌, Some, Err, refl, rules}
+use Rattle.std.proofs.Common.{◌≡◌, Some, refl, rules}
 use Rattle.std.specs.Prelude.{slice_get}
 use Rattle.std.proofs.lemmas.Option.{slice_get_read}
 use Rattle.fan_bits.specs.declared.errno.Errno.TheVariants as errno
-use Rattle.fan_listener.specs.declared.answers.ReadRefused.{ReadRefused}
 use Rattle.fan_listener.specs.declared.answers.ReadRefused.TheVariants as refusals
-use Rattle.fan_listener.specs.Records.{read_of}
 use Rattle.fan_world.proofs.Steps.{read_refused}
 use Rattle.fan_world.proofs.groups.read_at.Goals as goal
 

@@ -1,9 +1,9 @@
-use Rattle.std.proofs.Common.{List, arith, ap}
+use Rattle.std.proofs.Common.{List, ap}
 use Rattle.fan_listener.specs.ListenerState.{ListenerState}
 use Rattle.fan_world.specs.declared.marks.Mark.{Mark}
 use Rattle.fan_world.specs.declared.step.Reply.{Reply}
 use Rattle.fan_world.specs.Accesses.{AccessState}
-use Rattle.fan_world.proofs.Bounded.{bounded_up, bounded_later, bounded_group, bounded_advance, bounded_read, bounded_write, bounded_close}
+use Rattle.fan_world.proofs.Bounded.{bounded_later, bounded_group, bounded_advance, bounded_read, bounded_write, bounded_close}
 use Rattle.fan_world.proofs.world.World.step.Goals as goal
 use Rattle.fan_world.proofs.world.World.step.Goals.{in-MkFile+in_ok-reply-in-MkFile, in-Init+in_ok-reply-in-Init, in-Mark+in_ok-reply-in-Mark, in-Begin+in_ok-reply-in-Begin, in-Advance+in_ok-reply-in-Advance, in-Read+in_ok-reply-in-Read, in-Write, in-Close}
 
