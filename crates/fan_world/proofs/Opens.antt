@@ -31,7 +31,8 @@ numbers first [] = []
 numbers first (None ∷ groups) = numbers (suc first) groups
 numbers first (Some flags ∷ groups) = first ∷ numbers (suc first) groups
 
-length-numbers_filter : (first : ℕ) (listeners : List ListenerState) → length (numbers first (opens listeners)) ≡ length (filter is_open listeners)
+length-numbers_filter : (first : ℕ) (listeners : List ListenerState)
+    → length (numbers first (opens listeners)) ≡ length (filter is_open listeners)
 length-numbers_filter first [] = refl
 length-numbers_filter first (listener ∷ more) =
     elim listener.closed as (λ closed. length (numbers first (cond closed None (Some listener.flags) ∷ opens more)) ≡ length (cond (not closed) (listener ∷ filter is_open more) (filter is_open more))) [
@@ -40,11 +41,13 @@ length-numbers_filter first (listener ∷ more) =
     ]
 
 -- there are as many numbers as groups that are open
-pub length-numbers : (first : ℕ) (listeners : List ListenerState) → length (numbers first (opens listeners)) ≡ count_by is_open listeners
+pub length-numbers : (first : ℕ) (listeners : List ListenerState)
+    → length (numbers first (opens listeners)) ≡ count_by is_open listeners
 length-numbers first listeners = length-numbers_filter first listeners ∙ length-filter is_open listeners
 
 -- where a group is closed, no more are open than before
-pub length-numbers_closed : (first place : ℕ) (groups : List (Option ℕ)) → length (numbers first (set groups place None)) ≤ length (numbers first groups)
+pub length-numbers_closed : (first place : ℕ) (groups : List (Option ℕ))
+    → length (numbers first (set groups place None)) ≤ length (numbers first groups)
 length-numbers_closed first place [] = omega arith
 length-numbers_closed first zero (None ∷ groups) = omega arith
 length-numbers_closed first zero (Some flags ∷ groups) = omega arith
@@ -52,7 +55,8 @@ length-numbers_closed first (suc place) (None ∷ groups) = length-numbers_close
 length-numbers_closed first (suc place) (Some flags ∷ groups) = omega (arith, length-numbers_closed (suc first) place groups)
 
 -- a group that is open is among the numbers
-pub is_member-numbers : (group first place flags : ℕ) (groups : List (Option ℕ)) → group ≡ place + first → slice_get groups place ≡ Some (Some flags) → is_member eqb (numbers first groups) group ≡ true
+pub is_member-numbers : (group first place flags : ℕ) (groups : List (Option ℕ)) → group ≡ place + first
+    → slice_get groups place ≡ Some (Some flags) → is_member eqb (numbers first groups) group ≡ true
 is_member-numbers group first place flags [] is here = absurd cc
 is_member-numbers group first zero flags (None ∷ groups) is here = absurd cc
 is_member-numbers group first zero flags (Some other ∷ groups) is here = grind (arith, nat_tests, is)
@@ -63,7 +67,8 @@ is_member-numbers group first (suc place) flags (Some other ∷ groups) is here 
     grind (arith, nat_tests, later)
 
 -- what is elsewhere stays where one place is written
-pub slice_get-set_other : {A : Type 0} (xs : List A) (i j : ℕ) (x : A) → (i ≡ j → ⊥) → slice_get (set xs j x) i ≡ slice_get xs i
+pub slice_get-set_other : {A : Type 0} (xs : List A) (i j : ℕ) (x : A) → (i ≡ j → ⊥)
+    → slice_get (set xs j x) i ≡ slice_get xs i
 slice_get-set_other [] i j x other = refl
 slice_get-set_other (y ∷ ys) zero zero x other = absurd (other refl)
 slice_get-set_other (y ∷ ys) zero (suc j) x other = refl
@@ -71,12 +76,15 @@ slice_get-set_other (y ∷ ys) (suc i) zero x other = refl
 slice_get-set_other (y ∷ ys) (suc i) (suc j) x other = slice_get-set_other ys i j x (λ same. other (ap (λ n. suc n) same))
 
 -- what is there stays where the list grows
-pub slice_get-append : {A : Type 0} (xs ys : List A) (i : ℕ) (x : A) → slice_get xs i ≡ Some x → slice_get (xs ++ ys) i ≡ Some x
+pub slice_get-append : {A : Type 0} (xs ys : List A) (i : ℕ) (x : A) → slice_get xs i ≡ Some x
+    → slice_get (xs ++ ys) i ≡ Some x
 slice_get-append [] ys i x here = absurd cc
 slice_get-append (z ∷ zs) ys zero x here = here
 slice_get-append (z ∷ zs) ys (suc i) x here = slice_get-append zs ys i x here
 
-opens-set : (listeners : List ListenerState) (place : ℕ) (old new : ListenerState) → slice_get listeners place ≡ Some old → opened new ≡ opened old → opens (set listeners place new) ≡ opens listeners
+opens-set : (listeners : List ListenerState) (place : ℕ) (old new : ListenerState)
+    → slice_get listeners place ≡ Some old → opened new ≡ opened old
+    → opens (set listeners place new) ≡ opens listeners
 opens-set [] place old new here same = refl
 opens-set (listener ∷ more) zero old new here same =
     let is : listener ≡ old = cc in
@@ -84,11 +92,15 @@ opens-set (listener ∷ more) zero old new here same =
 opens-set (listener ∷ more) (suc place) old new here same = ap (λ os. opened listener ∷ os) (opens-set more place old new here same)
 
 -- a listener that stays open, or closed, changes no more
-pub opens-with_listener : (listeners : List ListenerState) (group : ℕ) (old new : ListenerState) → listener_at listeners group ≡ Some old → opened new ≡ opened old → opens (with_listener listeners group new) ≡ opens listeners
+pub opens-with_listener : (listeners : List ListenerState) (group : ℕ) (old new : ListenerState)
+    → listener_at listeners group ≡ Some old → opened new ≡ opened old
+    → opens (with_listener listeners group new) ≡ opens listeners
 opens-with_listener listeners zero old new here same = absurd cc
 opens-with_listener listeners (suc place) old new here same = simp unary_clauses (opens-set listeners place old new here same)
 
-opened-cond : (b : Bool) (listener : ListenerState) (left right : Put × ListenerState) → opened left.1 ≡ opened listener → opened right.1 ≡ opened listener → opened (cond b left right).1 ≡ opened listener
+opened-cond : (b : Bool) (listener : ListenerState) (left right : Put × ListenerState)
+    → opened left.1 ≡ opened listener → opened right.1 ≡ opened listener
+    → opened (cond b left right).1 ≡ opened listener
 opened-cond true listener left right here there = here
 opened-cond false listener left right here there = there
 
@@ -97,7 +109,8 @@ unfolding queued
 opened-put_lost listener (Some number) = refl
 opened-put_lost listener None = refl
 
-opened-put_told : (listener : ListenerState) (event : Event) (number : Option ℕ) → opened (put_told listener event number).1 ≡ opened listener
+opened-put_told : (listener : ListenerState) (event : Event) (number : Option ℕ)
+    → opened (put_told listener event number).1 ≡ opened listener
 unfolding queued
 opened-put_told listener event (Some number) = refl
 opened-put_told listener event None = refl
@@ -116,32 +129,38 @@ pub opened-answer_of : (listener : ListenerState) (entry : ℕ) → opened (answ
 unfolding answer_of
 opened-answer_of listener entry = refl
 
-IfOk-cond : {T E : Type 0} (b : Bool) (left right : Result T E) (P : T → Type 0) → IfOk left P → IfOk right P → IfOk (cond b left right) P
+IfOk-cond : {T E : Type 0} (b : Bool) (left right : Result T E) (P : T → Type 0) → IfOk left P → IfOk right P
+    → IfOk (cond b left right) P
 IfOk-cond true left right P here there = here
 IfOk-cond false left right P here there = there
 
-opened-read_queue : (listener : ListenerState) (size : ℕ) (queue : List Entry) → IfOk (read_queue listener size queue) (λ read. opened read.1 ≡ opened listener)
+opened-read_queue : (listener : ListenerState) (size : ℕ) (queue : List Entry)
+    → IfOk (read_queue listener size queue) (λ read. opened read.1 ≡ opened listener)
 unfolding read_front
 opened-read_queue listener size [] = tt
 opened-read_queue listener size (first ∷ rest) =
     IfOk-cond (nat_lt size record_len) _ _ (λ read. opened read.1 ≡ opened listener) tt refl
 
 -- and so does a read
-pub opened-read_of : (listener : ListenerState) (size : ℕ) → IfOk (read_of listener size) (λ read. opened read.1 ≡ opened listener)
+pub opened-read_of : (listener : ListenerState) (size : ℕ)
+    → IfOk (read_of listener size) (λ read. opened read.1 ≡ opened listener)
 unfolding read_of
 opened-read_of listener size =
     IfOk-cond listener.closed _ _ (λ read. opened read.1 ≡ opened listener) tt (opened-read_queue listener size listener.queue)
 
-opened-answered : (listener : ListenerState) (fd : ℕ) (answer : Answer) (entry : Option ℕ) → IfOk (answered listener fd answer entry) (λ response. opened response.1 ≡ opened listener)
+opened-answered : (listener : ListenerState) (fd : ℕ) (answer : Answer) (entry : Option ℕ)
+    → IfOk (answered listener fd answer entry) (λ response. opened response.1 ≡ opened listener)
 opened-answered listener fd answer None = tt
 opened-answered listener fd answer (Some entry) = refl
 
-opened-responded : (listener : ListenerState) (fd : ℕ) (answer : Option Answer) → IfOk (responded listener fd answer) (λ response. opened response.1 ≡ opened listener)
+opened-responded : (listener : ListenerState) (fd : ℕ) (answer : Option Answer)
+    → IfOk (responded listener fd answer) (λ response. opened response.1 ≡ opened listener)
 opened-responded listener fd None = tt
 opened-responded listener fd (Some answer) = opened-answered listener fd answer (waiting_under fd listener.pending)
 
 -- and so does a response
-pub opened-written : (listener : ListenerState) (bytes : List ℕ) → IfOk (written listener bytes) (λ response. opened response.1 ≡ opened listener)
+pub opened-written : (listener : ListenerState) (bytes : List ℕ)
+    → IfOk (written listener bytes) (λ response. opened response.1 ≡ opened listener)
 unfolding written
 opened-written listener bytes =
     IfOk-cond listener.closed _ _ (λ response. opened response.1 ≡ opened listener) tt

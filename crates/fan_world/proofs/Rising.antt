@@ -20,14 +20,17 @@ module _ {A : Type 0} (before : A → A → Bool) where
       ]
 
   -- two lists that rise, each element of the first before all of the second
-  pub Rises-append : (xs ys : List A) → Rises before xs → Rises before ys → All (λ x. All (λ y. before x y ≡ true) ys) xs → Rises before (xs ++ ys)
+  pub Rises-append : (xs ys : List A) → Rises before xs → Rises before ys
+      → All (λ x. All (λ y. before x y ≡ true) ys) xs → Rises before (xs ++ ys)
   Rises-append [] ys left right across = right
   Rises-append (x ∷ xs) ys left right across =
       let P : A → Type 0 = λ x. All (λ y. before x y ≡ true) ys in
       (All-append (λ y. before x y ≡ true) xs ys left.0 (All-head P x xs across), Rises-append xs ys left.1 right (All-tail P x xs across))
 
   -- one more element, between those before it and those behind it
-  pub Rises-put : ((x y z : A) → before x y ≡ true → before y z ≡ true → before x z ≡ true) → (xs : List A) (y : A) → Rises before xs → Rises before (filter (λ x. before x y) xs ++ y ∷ [] ++ filter (λ x. before y x) xs)
+  pub Rises-put : ((x y z : A) → before x y ≡ true → before y z ≡ true → before x z ≡ true)
+      → (xs : List A) (y : A) → Rises before xs
+      → Rises before (filter (λ x. before x y) xs ++ y ∷ [] ++ filter (λ x. before y x) xs)
   Rises-put trans xs y rises =
       let front = filter (λ x. before x y) xs in
       let back = filter (λ x. before y x) xs in
@@ -43,7 +46,9 @@ module _ {A : Type 0} (before : A → A → Bool) where
       Rises-append (front ++ y ∷ []) back upto (Rises-filter (λ x. before y x) xs rises)
       (All-append Before front (y ∷ []) far (All-cons Before y [] behind (All-nil Before)))
 
-  different_from : (key : A → ℕ) (x : A) (P : A → Type 0) → P x → ((y : A) → P y → before x y ≡ true → eqb (key x) (key y) ≡ false) → (xs : List A) → All (λ y. before x y ≡ true) xs → All P xs → AllByRecursion (λ k. eqb (key x) k ≡ false) (map key xs)
+  different_from : (key : A → ℕ) (x : A) (P : A → Type 0) → P x
+      → ((y : A) → P y → before x y ≡ true → eqb (key x) (key y) ≡ false) → (xs : List A)
+      → All (λ y. before x y ≡ true) xs → All P xs → AllByRecursion (λ k. eqb (key x) k ≡ false) (map key xs)
   different_from key x P here differ [] behind each = tt
   different_from key x P here differ (y ∷ ys) behind each = (
     differ y (All-head P y ys each) (All-head (λ y. before x y ≡ true) y ys behind),
@@ -51,7 +56,9 @@ module _ {A : Type 0} (before : A → A → Bool) where
   )
 
   -- the keys of a list that rises are different where those of any two elements in order are
-  pub Rises-distinct : (key : A → ℕ) (P : A → Type 0) → ((x y : A) → P x → P y → before x y ≡ true → eqb (key x) (key y) ≡ false) → (xs : List A) → Rises before xs → All P xs → IsDistinct eqb (map key xs)
+  pub Rises-distinct : (key : A → ℕ) (P : A → Type 0)
+      → ((x y : A) → P x → P y → before x y ≡ true → eqb (key x) (key y) ≡ false) → (xs : List A)
+      → Rises before xs → All P xs → IsDistinct eqb (map key xs)
   unfolding IsDistinct
   Rises-distinct key P differ [] rises each = tt
   Rises-distinct key P differ (x ∷ xs) rises each =

@@ -73,7 +73,8 @@ record StandsOn (groups : List (Option ℕ)) (object : ℕ) (mark : Mark) : Type
   stands : Stands groups mark
   on : mark.object ≡ object
 
-same_class : (groups : List (Option ℕ)) (a b : Mark) → Stands groups a → Stands groups b → a.group ≡ b.group → a.class ≡ b.class
+same_class : (groups : List (Option ℕ)) (a b : Mark) → Stands groups a → Stands groups b → a.group ≡ b.group
+    → a.class ≡ b.class
 same_class groups a b first second same =
     let found : Some (Some first.flags) ≡ Some (Some second.flags) = sym first.here ∙ ap (λ group. slice_get groups (group - 1)) same ∙ second.here in
     let flags : first.flags ≡ second.flags = same_Some _ _ (same_Some _ _ found) in
@@ -89,21 +90,26 @@ false_unless true never = absurd (never refl)
 false_unless false never = refl
 
 -- two marks in order on one object are of two groups
-groups_differ : (groups : List (Option ℕ)) (object : ℕ) (a b : Mark) → StandsOn groups object a → StandsOn groups object b → is_before a b ≡ true → eqb a.group b.group ≡ false
+groups_differ : (groups : List (Option ℕ)) (object : ℕ) (a b : Mark) → StandsOn groups object a
+    → StandsOn groups object b → is_before a b ≡ true → eqb a.group b.group ≡ false
 groups_differ groups object a b first second before =
     false_unless (eqb a.group b.group) (λ is.
     let same : a.group ≡ b.group = eqb-true _ _ is in
     not_before a b (first.on ∙ sym second.on) (same_class groups a b first.stands second.stands same) same before)
 
-first_or_rest : (first rest wanted : Bool) → (first ≡ true → wanted ≡ true) → (rest ≡ true → wanted ≡ true) → (first || rest) ≡ true → wanted ≡ true
+first_or_rest : (first rest wanted : Bool) → (first ≡ true → wanted ≡ true) → (rest ≡ true → wanted ≡ true)
+    → (first || rest) ≡ true → wanted ≡ true
 first_or_rest true rest wanted here there is = here refl
 first_or_rest false rest wanted here there is = there is
 
-group_among : (groups : List (Option ℕ)) (mark : Mark) → Stands groups mark → is_member eqb (numbers 1 groups) mark.group ≡ true
+group_among : (groups : List (Option ℕ)) (mark : Mark) → Stands groups mark
+    → is_member eqb (numbers 1 groups) mark.group ≡ true
 group_among groups mark stands =
     is_member-numbers mark.group 1 (mark.group - 1) stands.flags groups (omega (arith, stands.above)) stands.here
 
-each_among : (groups : List (Option ℕ)) (marks : List Mark) (group : ℕ) → All (Stands groups) marks → list_any (eqb group) (map (λ mark. mark.group) marks) ≡ true → is_member eqb (numbers 1 groups) group ≡ true
+each_among : (groups : List (Option ℕ)) (marks : List Mark) (group : ℕ) → All (Stands groups) marks
+    → list_any (eqb group) (map (λ mark. mark.group) marks) ≡ true
+    → is_member eqb (numbers 1 groups) group ≡ true
 each_among groups [] group each found = absurd cc
 each_among groups (mark ∷ marks) group each found =
     first_or_rest (eqb group mark.group) (list_any (eqb group) (map (λ mark. mark.group) marks)) (is_member eqb (numbers 1 groups) group)
@@ -111,7 +117,9 @@ each_among groups (mark ∷ marks) group each found =
     (each_among groups marks group (All-tail (Stands groups) mark marks each)) found
 
 -- marks on one object are of different groups, so there are no more than groups that are open
-pub few_on : (groups : List (Option ℕ)) (marks : List Mark) (object : ℕ) (p : Mark → Bool) → ((mark : Mark) → p mark ≡ true → mark.object ≡ object) → AreSound groups marks → length (map (λ mark. mark.group) (filter p marks)) ≤ most_groups
+pub few_on : (groups : List (Option ℕ)) (marks : List Mark) (object : ℕ) (p : Mark → Bool)
+    → ((mark : Mark) → p mark ≡ true → mark.object ≡ object) → AreSound groups marks
+    → length (map (λ mark. mark.group) (filter p marks)) ≤ most_groups
 few_on groups marks object p on sound =
     let found = filter p marks in
     let passes : All (λ mark. p mark ≡ true) found = filter_passes p marks in
@@ -131,17 +139,20 @@ chosen P false x y here there = there
 is_before-trans : (a b c : Mark) → is_before a b ≡ true → is_before b c ≡ true → is_before a c ≡ true
 is_before-trans a b c first second = grind (arith, nat_tests)
 
-Stands-joined : (groups : List (Option ℕ)) (old : Option Mark) (mark : Mark) → Stands groups mark → Stands groups (joined old mark)
+Stands-joined : (groups : List (Option ℕ)) (old : Option Mark) (mark : Mark) → Stands groups mark
+    → Stands groups (joined old mark)
 Stands-joined groups None mark stands = stands
 Stands-joined groups (Some old) mark stands =
     record { flags = stands.flags; above = stands.above; here = stands.here; class_is = stands.class_is }
 
-Rises-joined : (marks : List Mark) (old : Option Mark) (mark : Mark) → Rises is_before marks → Rises is_before (filter (λ other. is_before other mark) marks ++ joined old mark ∷ [] ++ filter (λ other. is_before mark other) marks)
+Rises-joined : (marks : List Mark) (old : Option Mark) (mark : Mark) → Rises is_before marks
+    → Rises is_before (filter (λ other. is_before other mark) marks ++ joined old mark ∷ [] ++ filter (λ other. is_before mark other) marks)
 Rises-joined marks None mark rises = Rises-put is_before is_before-trans marks mark rises
 Rises-joined marks (Some old) mark rises = Rises-put is_before is_before-trans marks (joined (Some old) mark) rises
 
 -- the marks with one more of an open group
-AreSound-with_mark : (groups : List (Option ℕ)) (marks : List Mark) (mark : Mark) → Stands groups mark → AreSound groups marks → AreSound groups (with_mark marks mark)
+AreSound-with_mark : (groups : List (Option ℕ)) (marks : List Mark) (mark : Mark) → Stands groups mark
+    → AreSound groups marks → AreSound groups (with_mark marks mark)
 unfolding with_mark
 AreSound-with_mark groups marks mark stands sound =
     let front = filter (λ other. is_before other mark) marks in
@@ -156,7 +167,9 @@ AreSound-with_mark groups marks mark stands sound =
       rises = Rises-joined marks old mark sound.rises;
     }
 
-sound_added_at : (groups : List (Option ℕ)) (object : Option ℕ) (marks : List Mark) (group flags : ℕ) (mask : MarkMask) → 0 < group → slice_get groups (group - 1) ≡ Some (Some flags) → AreSound groups marks → AreSound groups (added_at object marks group flags mask).1
+sound_added_at : (groups : List (Option ℕ)) (object : Option ℕ) (marks : List Mark) (group flags : ℕ) (mask : MarkMask)
+    → 0 < group → slice_get groups (group - 1) ≡ Some (Some flags) → AreSound groups marks
+    → AreSound groups (added_at object marks group flags mask).1
 sound_added_at groups None marks group flags mask above here sound = sound
 sound_added_at groups (Some object) marks group flags mask above here sound =
     let mark : Mark = record { group = group; class = class_of flags; object = object; mask = mask } in
@@ -169,25 +182,31 @@ record IsOpenAt (listeners : List ListenerState) (group : ℕ) (listener : Liste
   at : listener_at listeners group ≡ Some listener
   here : slice_get (opens listeners) (group - 1) ≡ Some (Some listener.flags)
 
-opened_if : (closed : Bool) (found listener : ListenerState) → cond closed None (Some found) ≡ Some listener → found.closed ≡ closed → opened found ≡ Some listener.flags
+opened_if : (closed : Bool) (found listener : ListenerState) → cond closed None (Some found) ≡ Some listener
+    → found.closed ≡ closed → opened found ≡ Some listener.flags
 opened_if true found listener is was = absurd cc
 opened_if false found listener is was =
     let same : found ≡ listener = cc in rw was (ap (λ (l : ListenerState). Some l.flags) same)
 
-same_if : (closed : Bool) (found listener : ListenerState) → cond closed None (Some found) ≡ Some listener → found ≡ listener
+same_if : (closed : Bool) (found listener : ListenerState) → cond closed None (Some found) ≡ Some listener
+    → found ≡ listener
 same_if true found listener is = absurd cc
 same_if false found listener is = cc
 
-open_in : (listeners : List ListenerState) (place : ℕ) (listener : ListenerState) → if_open (slice_get listeners place) ≡ Some listener → slice_get (opens listeners) place ≡ Some (Some listener.flags)
+open_in : (listeners : List ListenerState) (place : ℕ) (listener : ListenerState)
+    → if_open (slice_get listeners place) ≡ Some listener
+    → slice_get (opens listeners) place ≡ Some (Some listener.flags)
 open_in [] place listener is = absurd cc
 open_in (found ∷ more) zero listener is = ap (λ o. Some o) (opened_if found.closed found listener is refl)
 open_in (found ∷ more) (suc place) listener is = open_in more place listener is
 
-found_open : (found : Option ListenerState) (listener : ListenerState) → if_open found ≡ Some listener → found ≡ Some listener
+found_open : (found : Option ListenerState) (listener : ListenerState) → if_open found ≡ Some listener
+    → found ≡ Some listener
 found_open None listener is = absurd cc
 found_open (Some found) listener is = ap (λ l. Some l) (same_if found.closed found listener is)
 
-open_at : (listeners : List ListenerState) (group : ℕ) (listener : ListenerState) → open_listener listeners group ≡ Some listener → IsOpenAt listeners group listener
+open_at : (listeners : List ListenerState) (group : ℕ) (listener : ListenerState)
+    → open_listener listeners group ≡ Some listener → IsOpenAt listeners group listener
 open_at listeners zero listener is = absurd cc
 open_at listeners (suc place) listener is = record {
   above = omega arith;
@@ -195,7 +214,11 @@ open_at listeners (suc place) listener is = record {
   here = simp unary_clauses (open_in listeners place listener is);
 }
 
-sound_marked_at : (listeners : List ListenerState) (found : Option ListenerState) (files : List File) (marks : List Mark) (group : ℕ) (mask : MarkMask) (path : List ℕ) → ((listener : ListenerState) → found ≡ Some listener → IsOpenAt listeners group listener) → AreSound (opens listeners) marks → AreSound (opens listeners) (marked_at found files marks group mask path).1
+sound_marked_at : (listeners : List ListenerState) (found : Option ListenerState) (files : List File)
+    (marks : List Mark) (group : ℕ) (mask : MarkMask) (path : List ℕ)
+    → ((listener : ListenerState) → found ≡ Some listener → IsOpenAt listeners group listener)
+    → AreSound (opens listeners) marks
+    → AreSound (opens listeners) (marked_at found files marks group mask path).1
 sound_marked_at listeners None files marks group mask path at sound = sound
 sound_marked_at listeners (Some listener) files marks group mask path at sound =
     let here : IsOpenAt listeners group listener = at listener refl in
@@ -203,16 +226,16 @@ sound_marked_at listeners (Some listener) files marks group mask path at sound =
     (sound_added_at (opens listeners) (object_at files path) marks group listener.flags mask here.above here.here sound)
 
 -- a mark is added where its group is open
-sound_marked : (listeners : List ListenerState) (files : List File) (marks : List Mark) (group : ℕ) (mask : MarkMask) (path : List ℕ) → AreSound (opens listeners) marks → AreSound (opens listeners) (marked listeners files marks group mask path).1
+sound_marked : (listeners : List ListenerState) (files : List File) (marks : List Mark) (group : ℕ)
+    (mask : MarkMask) (path : List ℕ)
+    → AreSound (opens listeners) marks
+    → AreSound (opens listeners) (marked listeners files marks group mask path).1
 unfolding marked
 sound_marked listeners files marks group mask path sound =
     sound_marked_at listeners (open_listener listeners group) files marks group mask path (open_at listeners group) sound
 
-opened-new_listener : (flags limit : ℕ) → opened (new_listener flags limit) ≡ Some flags
-unfolding new_listener
-opened-new_listener flags limit = refl
-
-one_more : (listeners : List ListenerState) (flags : ℕ) → count_by is_open listeners < most_groups → length (numbers 1 (opens (listeners ++ new_listener flags queue_limit ∷ []))) ≤ most_groups
+one_more : (listeners : List ListenerState) (flags : ℕ) → count_by is_open listeners < most_groups
+    → length (numbers 1 (opens (listeners ++ new_listener flags queue_limit ∷ []))) ≤ most_groups
 unfolding new_listener
 one_more listeners flags room =
     let counted = length-numbers 1 (listeners ++ new_listener flags queue_limit ∷ []) in
@@ -220,7 +243,9 @@ one_more listeners flags room =
     sum_by-append (λ l. cond (is_open l) 1 0) listeners (new_listener flags queue_limit ∷ []) in
     omega (arith, counted, added, room)
 
-sound_new : (listeners : List ListenerState) (marks : List Mark) (flags : ℕ) → count_by is_open listeners < most_groups → AreSound (opens listeners) marks → AreSound (opens (listeners ++ new_listener flags queue_limit ∷ [])) marks
+sound_new : (listeners : List ListenerState) (marks : List Mark) (flags : ℕ)
+    → count_by is_open listeners < most_groups → AreSound (opens listeners) marks
+    → AreSound (opens (listeners ++ new_listener flags queue_limit ∷ [])) marks
 sound_new listeners marks flags room sound = record {
   few = one_more listeners flags room;
   each = rw map-append (All-weaker (Stands (opens listeners)) (Stands (opens listeners ++ opened (new_listener flags queue_limit) ∷ [])) (λ mark stands. record {
@@ -233,7 +258,8 @@ sound_new listeners marks flags room sound = record {
 }
 
 -- a group is made only where few are open
-sound_grouped : (listeners : List ListenerState) (marks : List Mark) (flags : ℕ) → AreSound (opens listeners) marks → AreSound (opens (grouped listeners flags).1) marks
+sound_grouped : (listeners : List ListenerState) (marks : List Mark) (flags : ℕ)
+    → AreSound (opens listeners) marks → AreSound (opens (grouped listeners flags).1) marks
 unfolding grouped
 sound_grouped listeners marks flags sound =
     let P : List ListenerState → Type 0 = λ ls. AreSound (opens ls) marks in
@@ -246,7 +272,8 @@ opened-closed_of : (listener : ListenerState) → opened (closed_of listener) �
 unfolding closed_of
 opened-closed_of listener = refl
 
-opens-closed : (listeners : List ListenerState) (group : ℕ) (listener : ListenerState) → opens (with_listener listeners group (closed_of listener)) ≡ set (opens listeners) (group - 1) None
+opens-closed : (listeners : List ListenerState) (group : ℕ) (listener : ListenerState)
+    → opens (with_listener listeners group (closed_of listener)) ≡ set (opens listeners) (group - 1) None
 opens-closed listeners group listener =
     map-set (λ l. opened l) listeners (group - 1) (closed_of listener) ∙ ap (λ o. set (opens listeners) (group - 1) o) (opened-closed_of listener)
 
@@ -257,7 +284,8 @@ other_place a b above above' differ same =
     absurd cc
 
 -- a group is closed, and its marks go
-sound_without : (groups : List (Option ℕ)) (marks : List Mark) (group : ℕ) → 0 < group → AreSound groups marks → AreSound (set groups (group - 1) None) (without_group marks group)
+sound_without : (groups : List (Option ℕ)) (marks : List Mark) (group : ℕ) → 0 < group → AreSound groups marks
+    → AreSound (set groups (group - 1) None) (without_group marks group)
 unfolding without_group
 sound_without groups marks group above sound =
     let keeps : Mark → Bool = λ mark. not (eqb mark.group group) in
@@ -274,85 +302,111 @@ sound_without groups marks group above sound =
       rises = Rises-filter is_before keeps marks sound.rises;
     }
 
-sound_closed_at : (found : Option ListenerState) (listeners : List ListenerState) (marks : List Mark) (group : ℕ) → ((listener : ListenerState) → found ≡ Some listener → IsOpenAt listeners group listener) → AreSound (opens listeners) marks → AreSound (opens (closed_at found listeners marks group).1) (closed_at found listeners marks group).2
+sound_closed_at : (found : Option ListenerState) (listeners : List ListenerState) (marks : List Mark) (group : ℕ)
+    → ((listener : ListenerState) → found ≡ Some listener → IsOpenAt listeners group listener)
+    → AreSound (opens listeners) marks
+    → AreSound (opens (closed_at found listeners marks group).1) (closed_at found listeners marks group).2
 sound_closed_at None listeners marks group at sound = sound
 sound_closed_at (Some listener) listeners marks group at sound =
     subst (λ groups. AreSound groups (without_group marks group)) (sym (opens-closed listeners group listener))
     (sound_without (opens listeners) marks group (at listener refl).above sound)
 
-sound_closed : (listeners : List ListenerState) (marks : List Mark) (group : ℕ) → AreSound (opens listeners) marks → AreSound (opens (closed_group listeners marks group).1) (closed_group listeners marks group).2
+sound_closed : (listeners : List ListenerState) (marks : List Mark) (group : ℕ)
+    → AreSound (opens listeners) marks
+    → AreSound (opens (closed_group listeners marks group).1) (closed_group listeners marks group).2
 unfolding closed_group
 sound_closed listeners marks group sound =
     sound_closed_at (open_listener listeners group) listeners marks group (open_at listeners group) sound
 
-opens-read_answer : (read : Result (List ℕ × ListenerState) ReadRefused) (listeners : List ListenerState) (group : ℕ) (listener : ListenerState) → listener_at listeners group ≡ Some listener → IfOk read (λ r. opened r.1 ≡ opened listener) → opens (read_answer read listeners group).1 ≡ opens listeners
+opens-read_answer : (read : Result (List ℕ × ListenerState) ReadRefused) (listeners : List ListenerState)
+    (group : ℕ) (listener : ListenerState)
+    → listener_at listeners group ≡ Some listener → IfOk read (λ r. opened r.1 ≡ opened listener)
+    → opens (read_answer read listeners group).1 ≡ opens listeners
 opens-read_answer (Err refusal) listeners group listener at same = refl
 opens-read_answer (Ok read) listeners group listener at same = opens-with_listener listeners group listener read.1 at same
 
-opens-read_at : (found : Option ListenerState) (listeners : List ListenerState) (group size : ℕ) → listener_at listeners group ≡ found → opens (read_at found listeners group size).1 ≡ opens listeners
+opens-read_at : (found : Option ListenerState) (listeners : List ListenerState) (group size : ℕ)
+    → listener_at listeners group ≡ found → opens (read_at found listeners group size).1 ≡ opens listeners
 opens-read_at None listeners group size at = refl
 opens-read_at (Some listener) listeners group size at =
     opens-read_answer (read_of listener size) listeners group listener at (opened-read_of listener size)
 
 -- a read opens and closes no group
-opens-read_from : (listeners : List ListenerState) (group size : ℕ) → opens (read_from listeners group size).1 ≡ opens listeners
+opens-read_from : (listeners : List ListenerState) (group size : ℕ)
+    → opens (read_from listeners group size).1 ≡ opens listeners
 unfolding read_from
 opens-read_from listeners group size = opens-read_at (listener_at listeners group) listeners group size refl
 
-opens-write_answer : (response : Result (Answered × ListenerState) WriteRefused) (listeners : List ListenerState) (group : ℕ) (listener : ListenerState) → listener_at listeners group ≡ Some listener → IfOk response (λ r. opened r.1 ≡ opened listener) → opens (write_answer response listeners group).1 ≡ opens listeners
+opens-write_answer : (response : Result (Answered × ListenerState) WriteRefused)
+    (listeners : List ListenerState) (group : ℕ) (listener : ListenerState)
+    → listener_at listeners group ≡ Some listener → IfOk response (λ r. opened r.1 ≡ opened listener)
+    → opens (write_answer response listeners group).1 ≡ opens listeners
 opens-write_answer (Err refusal) listeners group listener at same = refl
 opens-write_answer (Ok response) listeners group listener at same = opens-with_listener listeners group listener response.1 at same
 
-opens-written_at : (found : Option ListenerState) (listeners : List ListenerState) (group : ℕ) (bytes : List ℕ) → listener_at listeners group ≡ found → opens (written_at found listeners group bytes).1 ≡ opens listeners
+opens-written_at : (found : Option ListenerState) (listeners : List ListenerState) (group : ℕ) (bytes : List ℕ)
+    → listener_at listeners group ≡ found → opens (written_at found listeners group bytes).1 ≡ opens listeners
 opens-written_at None listeners group bytes at = refl
 opens-written_at (Some listener) listeners group bytes at =
     opens-write_answer (written listener bytes) listeners group listener at (opened-written listener bytes)
 
 -- nor does a response
-opens-written_to : (listeners : List ListenerState) (group : ℕ) (bytes : List ℕ) → opens (written_to listeners group bytes).1 ≡ opens listeners
+opens-written_to : (listeners : List ListenerState) (group : ℕ) (bytes : List ℕ)
+    → opens (written_to listeners group bytes).1 ≡ opens listeners
 unfolding written_to
 opens-written_to listeners group bytes = opens-written_at (listener_at listeners group) listeners group bytes refl
 
-opens-put_at : (found : Option ListenerState) (listeners : List ListenerState) (group : ℕ) (event : ℕ → Event) → listener_at listeners group ≡ found → opens (put_at found listeners group event).1 ≡ opens listeners
+opens-put_at : (found : Option ListenerState) (listeners : List ListenerState) (group : ℕ) (event : ℕ → Event)
+    → listener_at listeners group ≡ found → opens (put_at found listeners group event).1 ≡ opens listeners
 opens-put_at None listeners group event at = refl
 opens-put_at (Some listener) listeners group event at =
     opens-with_listener listeners group listener (put listener (event listener.flags)).1 at (opened-put listener (event listener.flags))
 
-opens-put_to : (listeners : List ListenerState) (group : ℕ) (event : ℕ → Event) → opens (put_to listeners group event).1 ≡ opens listeners
+opens-put_to : (listeners : List ListenerState) (group : ℕ) (event : ℕ → Event)
+    → opens (put_to listeners group event).1 ≡ opens listeners
 unfolding put_to
 opens-put_to listeners group event = opens-put_at (listener_at listeners group) listeners group event refl
 
-opens-answer_at : (found : Option ListenerState) (listeners : List ListenerState) (group entry : ℕ) → listener_at listeners group ≡ found → opens (answer_at found listeners group entry).1 ≡ opens listeners
+opens-answer_at : (found : Option ListenerState) (listeners : List ListenerState) (group entry : ℕ)
+    → listener_at listeners group ≡ found → opens (answer_at found listeners group entry).1 ≡ opens listeners
 opens-answer_at None listeners group entry at = refl
 opens-answer_at (Some listener) listeners group entry at =
     opens-with_listener listeners group listener (answer_of listener entry).1 at (opened-answer_of listener entry)
 
-opens-answer_from : (listeners : List ListenerState) (group entry : ℕ) → opens (answer_from listeners group entry).1 ≡ opens listeners
+opens-answer_from : (listeners : List ListenerState) (group entry : ℕ)
+    → opens (answer_from listeners group entry).1 ≡ opens listeners
 unfolding answer_from
 opens-answer_from listeners group entry = opens-answer_at (listener_at listeners group) listeners group entry refl
 
-opens-step_by : (waiting : Option WaitingFor) (ask tell : Option ℕ) (listeners : List ListenerState) (access : AccessState) → opens (step_by waiting ask tell listeners access).1 ≡ opens listeners
+opens-step_by : (waiting : Option WaitingFor) (ask tell : Option ℕ) (listeners : List ListenerState)
+    (access : AccessState)
+    → opens (step_by waiting ask tell listeners access).1 ≡ opens listeners
 unfolding looked asked_next told_next
 opens-step_by (Some asked) ask tell listeners access = opens-answer_from listeners asked.group asked.entry
 opens-step_by None (Some group) tell listeners access = opens-put_to listeners group (λ flags. asked_event flags access)
 opens-step_by None None (Some group) listeners access = opens-put_to listeners group (λ flags. told_event flags access)
 opens-step_by None None None listeners access = refl
 
-opens-access_step : (listeners : List ListenerState) (access : AccessState) → opens (access_step listeners access).1 ≡ opens listeners
+opens-access_step : (listeners : List ListenerState) (access : AccessState)
+    → opens (access_step listeners access).1 ≡ opens listeners
 unfolding access_step
 opens-access_step listeners access =
     opens-step_by access.waiting (slice_get (asks access) access.settled) (slice_get (tells access) access.told) listeners access
 
-opens-advanced_at : (found : Option AccessState) (listeners : List ListenerState) (accesses : List AccessState) (number : ℕ) → opens (advanced_at found listeners accesses number).1 ≡ opens listeners
+opens-advanced_at : (found : Option AccessState) (listeners : List ListenerState)
+    (accesses : List AccessState) (number : ℕ)
+    → opens (advanced_at found listeners accesses number).1 ≡ opens listeners
 opens-advanced_at None listeners accesses number = refl
 opens-advanced_at (Some access) listeners accesses number = opens-access_step listeners access
 
 -- nor does the single step of an access
-opens-advanced : (listeners : List ListenerState) (accesses : List AccessState) (number : ℕ) → opens (advanced listeners accesses number).1 ≡ opens listeners
+opens-advanced : (listeners : List ListenerState) (accesses : List AccessState) (number : ℕ)
+    → opens (advanced listeners accesses number).1 ≡ opens listeners
 unfolding advanced
 opens-advanced listeners accesses number = opens-advanced_at (find (has_number number) accesses) listeners accesses number
 
-few_after_answer : (group : ℕ) (answer : Answer) (access : AccessState) → HasFew access → IfSome (after_answer group answer access).1 HasFew
+few_after_answer : (group : ℕ) (answer : Answer) (access : AccessState) → HasFew access
+    → IfSome (after_answer group answer access).1 HasFew
 few_after_answer group answers.Waiting access few = few
 few_after_answer group answers.Allowed access few = record { few_asks = few.few_asks; few_tells = few.few_tells }
 few_after_answer group answers.Denied access few = tt
@@ -364,7 +418,9 @@ few_after_ask group (puts.Merged entry) access few = record { few_asks = few.few
 few_after_ask group (puts.Overflow entry) access few = record { few_asks = few.few_asks; few_tells = few.few_tells }
 few_after_ask group puts.Closed access few = record { few_asks = few.few_asks; few_tells = few.few_tells }
 
-few_step_by : (waiting : Option WaitingFor) (ask tell : Option ℕ) (listeners : List ListenerState) (access : AccessState) → HasFew access → IfSome (step_by waiting ask tell listeners access).2 HasFew
+few_step_by : (waiting : Option WaitingFor) (ask tell : Option ℕ) (listeners : List ListenerState)
+    (access : AccessState)
+    → HasFew access → IfSome (step_by waiting ask tell listeners access).2 HasFew
 unfolding looked asked_next told_next
 few_step_by (Some asked) ask tell listeners access few = few_after_answer asked.group (answer_from listeners asked.group asked.entry).0 access few
 few_step_by None (Some group) tell listeners access few = few_after_ask group (put_to listeners group (λ flags. asked_event flags access)).0 access few
@@ -372,12 +428,14 @@ few_step_by None None (Some group) listeners access few = record { few_asks = fe
 few_step_by None None None listeners access few = tt
 
 -- an access keeps its marks, and so has no more groups to ask or to tell
-few_access_step : (listeners : List ListenerState) (access : AccessState) → HasFew access → IfSome (access_step listeners access).2 HasFew
+few_access_step : (listeners : List ListenerState) (access : AccessState) → HasFew access
+    → IfSome (access_step listeners access).2 HasFew
 unfolding access_step
 few_access_step listeners access few =
     few_step_by access.waiting (slice_get (asks access) access.settled) (slice_get (tells access) access.told) listeners access few
 
-All-without_first : {X : Type 0} (P : X → Type 0) (test : X → Bool) (xs : List X) → All P xs → All P (without_first test xs)
+All-without_first : {X : Type 0} (P : X → Type 0) (test : X → Bool) (xs : List X) → All P xs
+    → All P (without_first test xs)
 All-without_first P test [] each = each
 All-without_first P test (x ∷ xs) each =
     elim (test x) as (λ b. All P (cond b xs (x ∷ without_first test xs))) [
@@ -385,7 +443,8 @@ All-without_first P test (x ∷ xs) each =
       | false ↦ All-cons P x (without_first test xs) (All-head P x xs each) (All-without_first P test xs (All-tail P x xs each))
     ]
 
-All-change_first : {X : Type 0} (P : X → Type 0) (test : X → Bool) (y : X) (xs : List X) → P y → All P xs → All P (change_first test (λ old. y) xs)
+All-change_first : {X : Type 0} (P : X → Type 0) (test : X → Bool) (y : X) (xs : List X) → P y → All P xs
+    → All P (change_first test (λ old. y) xs)
 All-change_first P test y [] new each = each
 All-change_first P test y (x ∷ xs) new each =
     elim (test x) as (λ b. All P (cond b (y ∷ xs) (x ∷ change_first test (λ old. y) xs))) [
@@ -393,26 +452,33 @@ All-change_first P test y (x ∷ xs) new each =
       | false ↦ All-cons P x (change_first test (λ old. y) xs) (All-head P x xs each) (All-change_first P test y xs new (All-tail P x xs each))
     ]
 
-found_by : {X : Type 0} (P : X → Type 0) (b : Bool) (x y : X) (rest : Option X) → P x → (rest ≡ Some y → P y) → cond b (Some x) rest ≡ Some y → P y
+found_by : {X : Type 0} (P : X → Type 0) (b : Bool) (x y : X) (rest : Option X) → P x → (rest ≡ Some y → P y)
+    → cond b (Some x) rest ≡ Some y → P y
 found_by P true x y rest here later is = subst P (same_Some x y is) here
 found_by P false x y rest here later is = later is
 
 -- what is true of each element is true of the one that a search found
-pub All-find : {X : Type 0} (P : X → Type 0) (test : X → Bool) (xs : List X) (x : X) → All P xs → find test xs ≡ Some x → P x
+pub All-find : {X : Type 0} (P : X → Type 0) (test : X → Bool) (xs : List X) (x : X) → All P xs
+    → find test xs ≡ Some x → P x
 All-find P test [] x each found = absurd cc
 All-find P test (y ∷ ys) x each found =
     found_by P (test y) y x (find test ys) (All-head P y ys each) (All-find P test ys x (All-tail P y ys each)) found
 
-few_after_step : (number : ℕ) (kept : Option AccessState) (accesses : List AccessState) → IfSome kept HasFew → All HasFew accesses → All HasFew (after_step number kept accesses)
+few_after_step : (number : ℕ) (kept : Option AccessState) (accesses : List AccessState) → IfSome kept HasFew
+    → All HasFew accesses → All HasFew (after_step number kept accesses)
 few_after_step number None accesses few each = All-without_first HasFew (has_number number) accesses each
 few_after_step number (Some access) accesses few each = All-change_first HasFew (has_number number) access accesses few each
 
-few_advanced_at : (found : Option AccessState) (listeners : List ListenerState) (accesses : List AccessState) (number : ℕ) → ((access : AccessState) → found ≡ Some access → HasFew access) → All HasFew accesses → All HasFew (advanced_at found listeners accesses number).2
+few_advanced_at : (found : Option AccessState) (listeners : List ListenerState) (accesses : List AccessState)
+    (number : ℕ)
+    → ((access : AccessState) → found ≡ Some access → HasFew access) → All HasFew accesses
+    → All HasFew (advanced_at found listeners accesses number).2
 few_advanced_at None listeners accesses number at each = each
 few_advanced_at (Some access) listeners accesses number at each =
     few_after_step number (access_step listeners access).2 accesses (few_access_step listeners access (at access refl)) each
 
-few_advanced : (listeners : List ListenerState) (accesses : List AccessState) (number : ℕ) → All HasFew accesses → All HasFew (advanced listeners accesses number).2
+few_advanced : (listeners : List ListenerState) (accesses : List AccessState) (number : ℕ)
+    → All HasFew accesses → All HasFew (advanced listeners accesses number).2
 unfolding advanced
 few_advanced listeners accesses number each =
     few_advanced_at (find (has_number number) accesses) listeners accesses number (λ access found. All-find HasFew (has_number number) accesses access each found) each
@@ -420,7 +486,9 @@ few_advanced listeners accesses number each =
 on_object : (object here : ℕ) (more : Bool) → (here == object && more) ≡ true → here ≡ object
 on_object object here more is = grind (arith, nat_tests)
 
-few_begun_at : (groups : List (Option ℕ)) (object : Option ℕ) (marks : List Mark) (accesses : List AccessState) (last : ℕ) (opening : Opening) → AreSound groups marks → All HasFew accesses → All HasFew (begun_at object marks accesses last opening).1
+few_begun_at : (groups : List (Option ℕ)) (object : Option ℕ) (marks : List Mark)
+    (accesses : List AccessState) (last : ℕ) (opening : Opening)
+    → AreSound groups marks → All HasFew accesses → All HasFew (begun_at object marks accesses last opening).1
 few_begun_at groups None marks accesses last opening sound each = each
 few_begun_at groups (Some object) marks accesses last opening sound each =
     All-push HasFew accesses (beginning opening object marks) each (record {
@@ -428,7 +496,10 @@ few_begun_at groups (Some object) marks accesses last opening sound each =
       few_tells = few_on groups marks object (λ mark. mark.object == object && mark.mask.opened) (λ mark is. on_object object mark.object mark.mask.opened is) sound;
     })
 
-few_begun : (groups : List (Option ℕ)) (files : List File) (marks : List Mark) (accesses : List AccessState) (last : ℕ) (opening : Opening) (path : List ℕ) → AreSound groups marks → All HasFew accesses → All HasFew (begun files marks accesses last opening path).1
+few_begun : (groups : List (Option ℕ)) (files : List File) (marks : List Mark) (accesses : List AccessState)
+    (last : ℕ) (opening : Opening) (path : List ℕ)
+    → AreSound groups marks → All HasFew accesses
+    → All HasFew (begun files marks accesses last opening path).1
 unfolding begun
 few_begun groups files marks accesses last opening path sound each =
     elim (nat_lt last opening.number) as (λ new. All HasFew (cond {A = Reply × List AccessState × ℕ} new (begun_at (object_at files path) marks accesses last opening) (replies.Refused errno.Eexist, accesses, last)).1) [
@@ -436,7 +507,8 @@ few_begun groups files marks accesses last opening path sound each =
       | false ↦ each
     ]
 
-same_opens : (before after : List (Option ℕ)) (marks : List Mark) → after ≡ before → AreSound before marks → AreSound after marks
+same_opens : (before after : List (Option ℕ)) (marks : List Mark) → after ≡ before → AreSound before marks
+    → AreSound after marks
 same_opens before after marks same sound = subst (λ groups. AreSound groups marks) (sym same) sound
 
 -- each step keeps what holds
