@@ -12,6 +12,7 @@ abbrev pub turn_by : Option Line → WorldState → ℕ → List ℕ × Option W
 turn_by None world number = (bad_line_text number, None)
 turn_by (Some line) world number = let r = answered world line in (r.0, Some r.1)
 
+-- the same of the bytes of a line
 unfoldable pub turn : WorldState → ℕ → List ℕ → List ℕ × Option WorldState
 turn world number bytes = turn_by (line_at bytes) world number
 

@@ -3,6 +3,7 @@ use Rattle.std.specs.Prelude.{ℕ}
 use Rattle.fan_shell.specs.declared.status.Status.{Status}
 use Rattle.fan_shell.specs.declared.status.Status.TheVariants as statuses
 
+-- the exit status
 abbrev pub code_of : Status → ℕ
 code_of statuses.Ok = 0
 code_of statuses.BadLine = 1

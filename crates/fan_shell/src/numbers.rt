@@ -68,7 +68,8 @@ pub(crate) fn number(word: &[u8], least: u32, most: u32) -> Result<u32, LineRefu
 // The number that the first word spells, and the bytes behind its space.
 #[tactic(auto, unfolding(crate::specs::Reading::number_and_rest))]
 pub(crate) fn split_number(bytes: &[u8], least: u32, most: u32) -> Result<(u32, &[u8]), LineRefused>
-    ensures { Gives (λ parts. (parts.0, parts.1.now)) result (number_and_rest least most bytes.now) }
+    ensures { Gives (λ parts. (parts.0, parts.1.now)) result
+        (number_and_rest least most bytes.now) }
 {
     let (word, rest) = split_word(bytes)?;
     Ok((number(word, least, most)?, rest))

@@ -42,10 +42,11 @@ beginning opening object marks = record {
   told = 0;
 }
 
--- the groups that the access asks, and those that it tells, in order
+-- the groups that the access asks, in order
 abbrev pub asks : AccessState → List ℕ
 asks access = asked_groups access.marks access.object
 
+-- the groups that the access tells, in order
 abbrev pub tells : AccessState → List ℕ
 tells access = told_groups access.marks access.object
 
@@ -72,21 +73,23 @@ listener_at listeners (suc place) = slice_get listeners place
 abbrev pub with_listener : List ListenerState → ℕ → ListenerState → List ListenerState
 with_listener listeners group listener = slice_set listeners (group - 1) listener
 
--- an event is put on the queue of a group, by its flags; a group that isn't there counts as closed
+-- an event is put on a queue, by the flags of its group; a group that isn't there counts as closed
 abbrev pub put_at : Option ListenerState → List ListenerState → ℕ → (ℕ → Event) → Put × List ListenerState
 put_at None listeners group event = (puts.Closed, listeners)
 put_at (Some listener) listeners group event =
     let r = put listener (event listener.flags) in (r.0, with_listener listeners group r.1)
 
+-- an event is put on the queue of a group
 unfoldable pub put_to : List ListenerState → ℕ → (ℕ → Event) → Put × List ListenerState
 put_to listeners group event = put_at (listener_at listeners group) listeners group event
 
--- the answer of a group for one of its entries
+-- the answer for an entry, by the listener; a group that isn't there counts as closed
 abbrev pub answer_at : Option ListenerState → List ListenerState → ℕ → ℕ → Answer × List ListenerState
 answer_at None listeners group entry = (answers.Closed, listeners)
 answer_at (Some listener) listeners group entry =
     let r = answer_of listener entry in (r.0, with_listener listeners group r.1)
 
+-- the answer of a group for one of its entries
 unfoldable pub answer_from : List ListenerState → ℕ → ℕ → Answer × List ListenerState
 answer_from listeners group entry = answer_at (listener_at listeners group) listeners group entry
 

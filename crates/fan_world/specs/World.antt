@@ -40,13 +40,14 @@ pub record WorldState : Type 0 where
 abbrev pub opening_world : WorldState
 opening_world = record { files = []; next_object = 4; listeners = []; marks = []; accesses = []; last_access = 0 }
 
--- `mkfile`: EEXIST where the path is taken, ENOSPC where no object number is left
+-- a file is made at a path where none is; else EEXIST; ENOSPC where no object number is left
 abbrev pub made_at : Option ℕ → List File → ℕ → List ℕ → Reply × List File × ℕ
 made_at (Some object) files next path = (replies.Refused errno.Eexist, files, next)
 made_at None files next path =
     if nat_lt greatest_object next then (replies.Refused errno.Enospc, files, next)
     else (replies.Inode next, files ++ record { object = next; path = path } ∷ [], next + 1)
 
+-- `mkfile`: EEXIST, ENOSPC
 unfoldable pub made : List File → ℕ → List ℕ → Reply × List File × ℕ
 made files next path = made_at (object_at files path) files next path
 
@@ -76,6 +77,7 @@ abbrev pub if_open : Option ListenerState → Option ListenerState
 if_open None = None
 if_open (Some listener) = if listener.closed then None else Some listener
 
+-- the listener of a group that is there and open
 abbrev pub open_listener : List ListenerState → ℕ → Option ListenerState
 open_listener listeners group = if_open (listener_at listeners group)
 
@@ -105,11 +107,13 @@ added marks mark flags =
     if is_too_many (mark_of marks mark.group mark.object) marks mark.group flags
     then (replies.Refused errno.Enospc, marks) else (replies.Done, with_mark marks mark)
 
+-- the same on the object that a path reaches; ENOENT where it reaches none
 abbrev pub added_at : Option ℕ → List Mark → ℕ → ℕ → MarkMask → Reply × List Mark
 added_at None marks group flags mask = (replies.Refused errno.Enoent, marks)
 added_at (Some object) marks group flags mask =
     added marks (record { group = group; class = class_of flags; object = object; mask = mask }) flags
 
+-- the same by the listener of an open group; EBADF where there is none, EINVAL for a bad mask
 abbrev pub marked_at : Option ListenerState → List File → List Mark → ℕ → MarkMask → List ℕ → Reply × List Mark
 marked_at None files marks group mask path = (replies.Refused errno.Ebadf, marks)
 marked_at (Some listener) files marks group mask path =
@@ -120,12 +124,13 @@ marked_at (Some listener) files marks group mask path =
 unfoldable pub marked : List ListenerState → List File → List Mark → ℕ → MarkMask → List ℕ → Reply × List Mark
 marked listeners files marks group mask path = marked_at (open_listener listeners group) files marks group mask path
 
--- `begin`: EEXIST where the number isn't above all before it, ENOENT where the path reaches nothing
+-- an access of the object that a path reaches begins; ENOENT where it reaches none
 abbrev pub begun_at : Option ℕ → List Mark → List AccessState → ℕ → Opening → Reply × List AccessState × ℕ
 begun_at None marks accesses last opening = (replies.Refused errno.Enoent, accesses, last)
 begun_at (Some object) marks accesses last opening =
     (replies.Done, accesses ++ beginning opening object marks ∷ [], opening.number)
 
+-- `begin`: EEXIST where the number isn't above all before it, ENOENT where the path reaches nothing
 unfoldable pub begun : List File → List Mark → List AccessState → ℕ → Opening → List ℕ → Reply × List AccessState × ℕ
 begun files marks accesses last opening path =
     if nat_lt last opening.number then begun_at (object_at files path) marks accesses last opening
@@ -136,12 +141,13 @@ abbrev pub after_step : ℕ → Option AccessState → List AccessState → List
 after_step number None accesses = without_first (has_number number) accesses
 after_step number (Some access) accesses = change_first (has_number number) (λ old. access) accesses
 
--- `step`, of which `run` is made: ESRCH where no such access is open
+-- the single step of an access, where it is open
 abbrev pub advanced_at : Option AccessState → List ListenerState → List AccessState → ℕ → Reply × List ListenerState × List AccessState
 advanced_at None listeners accesses number = (replies.Refused errno.Esrch, listeners, accesses)
 advanced_at (Some access) listeners accesses number =
     let r = access_step listeners access in (replies.Out r.0, r.1, after_step number r.2 accesses)
 
+-- `step`, of which `run` is made: ESRCH where no such access is open
 unfoldable pub advanced : List ListenerState → List AccessState → ℕ → Reply × List ListenerState × List AccessState
 advanced listeners accesses number = advanced_at (find (has_number number) accesses) listeners accesses number
 
@@ -152,10 +158,12 @@ read_errno reads.Again = errno.Eagain
 read_errno reads.Small = errno.Einval
 read_errno reads.NoMemory = errno.Eagain
 
+-- the reply to a read, and the listeners after it
 abbrev pub read_answer : Result (List ℕ × ListenerState) ReadRefused → List ListenerState → ℕ → Reply × List ListenerState
 read_answer (Err refusal) listeners group = (replies.Refused (read_errno refusal), listeners)
 read_answer (Ok read) listeners group = (replies.Bytes read.0, with_listener listeners group read.1)
 
+-- a read of the listener of a group, where the group is there
 abbrev pub read_at : Option ListenerState → List ListenerState → ℕ → ℕ → Reply × List ListenerState
 read_at None listeners group size = (replies.Refused errno.Ebadf, listeners)
 read_at (Some listener) listeners group size = read_answer (read_of listener size) listeners group
@@ -171,10 +179,12 @@ write_errno writes.Length = errno.Einval
 write_errno writes.Value = errno.Einval
 write_errno writes.NotPending = errno.Enoent
 
+-- the reply to a response, and the listeners after it
 abbrev pub write_answer : Result (Answered × ListenerState) WriteRefused → List ListenerState → ℕ → Reply × List ListenerState
 write_answer (Err refusal) listeners group = (replies.Refused (write_errno refusal), listeners)
 write_answer (Ok response) listeners group = (replies.Done, with_listener listeners group response.1)
 
+-- a response of the listener of a group, where the group is there
 abbrev pub written_at : Option ListenerState → List ListenerState → ℕ → List ℕ → Reply × List ListenerState
 written_at None listeners group bytes = (replies.Refused errno.Ebadf, listeners)
 written_at (Some listener) listeners group bytes = write_answer (written listener bytes) listeners group
@@ -183,6 +193,7 @@ written_at (Some listener) listeners group bytes = write_answer (written listene
 unfoldable pub written_to : List ListenerState → ℕ → List ℕ → Reply × List ListenerState
 written_to listeners group bytes = written_at (listener_at listeners group) listeners group bytes
 
+-- the close of a group that is open
 abbrev pub closed_at : Option ListenerState → List ListenerState → List Mark → ℕ → Reply × List ListenerState × List Mark
 closed_at None listeners marks group = (replies.Refused errno.Ebadf, listeners, marks)
 closed_at (Some listener) listeners marks group =
