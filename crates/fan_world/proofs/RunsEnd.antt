@@ -1,5 +1,5 @@
 -- That each run ends: each single step of an access but the last leaves it less to do.
-use Rattle.std.proofs.Common.{◌≡◌, ℕ, zero, suc, ◌+◌, ◌-◌, ◌*◌, ◌<◌, ◌≤◌, List, [], ◌∷◌, Bool, true, false, cond, eqb, Option, Some, None, length, MatchBool, inl, inr, refl, arith}
+use Rattle.std.proofs.Common.{◌≡◌, ℕ, zero, suc, ◌+◌, ◌-◌, ◌*◌, ◌<◌, ◌≤◌, List, [], ◌∷◌, Bool, true, false, cond, eqb, Option, Some, None, length, MatchBool, refl, arith}
 use Rattle.std.specs.Prelude.{slice_get, find}
 use Rattle.std.proofs.lemmas.Option.{slice_get_within, same_Some}
 use Rattle.fan_bits.specs.declared.errno.Errno.TheVariants as errno
@@ -197,18 +197,19 @@ not_open count world number none = rw none refl
 
 whole_run : (count : ℕ) (world : WorldState) (number : ℕ) (access : Option AccessState) → IsSound world
     → most_answers ≡ suc count → find (has_number number) world.accesses ≡ access
-    → IsWholeRun (ran most_answers world number).0
-whole_run count world number None sound is found = rw is (inr (not_open count world number found))
+    → IsWholeRun access (ran most_answers world number).0
+whole_run count world number None sound is found = rw is (not_open count world number found)
 whole_run count world number (Some access) sound is found =
-    inl (run_ends_from most_answers world number access found (work_enough access (All-find HasFew (has_number number) world.accesses access sound.accesses_few found)))
+    run_ends_from most_answers world number access found (work_enough access (All-find HasFew (has_number number) world.accesses access sound.accesses_few found))
 
 some_answer : most_answers ≡ suc 384
 unfolding most_answers
 some_answer = refl
 
 -- after any steps each run is whole
-pub run_ends : (steps : List Step) (access : ℕ)
-    → IsWholeRun (ran most_answers (after_steps opening_world steps) access).0
+pub run_ends : (steps : List Step) (access : ℕ) →
+    let world = after_steps opening_world steps in
+    IsWholeRun (find (has_number access) world.accesses) (ran most_answers world access).0
 run_ends steps access =
     let world = after_steps opening_world steps in
     whole_run 384 world access (find (has_number access) world.accesses) (sound_after steps opening_world sound_opening) some_answer refl

@@ -1,5 +1,5 @@
 -- `run`: the single step of an access, repeated until one ends it.
-use Rattle.std.specs.Prelude.{◌≡◌, ◌⊎◌, ℕ, zero, suc, MatchBool, List, [], ◌∷◌, Bool, true, false, if◌then◌else◌}
+use Rattle.std.specs.Prelude.{◌≡◌, ℕ, zero, suc, MatchBool, List, [], ◌∷◌, Bool, true, false, Option, Some, None, if◌then◌else◌}
 use Rattle.fan_bits.specs.declared.errno.Errno.TheVariants as errno
 use Rattle.fan_world.specs.declared.step.Step.{Step}
 use Rattle.fan_world.specs.declared.step.Step.TheVariants as steps
@@ -7,6 +7,7 @@ use Rattle.fan_world.specs.declared.step.Reply.{Reply}
 use Rattle.fan_world.specs.declared.step.Reply.TheVariants as replies
 use Rattle.fan_world.specs.declared.step.StepOutcome.{StepOutcome}
 use Rattle.fan_world.specs.declared.step.StepOutcome.TheVariants as outcomes
+use Rattle.fan_world.specs.Accesses.{AccessState}
 use Rattle.fan_world.specs.World.{WorldState, next}
 
 -- an outcome that ends a run: the access waits, or is finished
@@ -53,9 +54,10 @@ EndsOnce (replies.Bytes bytes ∷ more) = ⊥
 EndsOnce (replies.Refused refusal ∷ more) = ⊥
 EndsOnce (replies.Out outcome ∷ more) = MatchBool (is_last outcome) (more ≡ []) (EndsOnce more)
 
--- the answers of a whole run: up to `blocked`, `denied` or `done`, or ESRCH alone where no such access is open
-abbrev pub IsWholeRun : List Reply → Type 0
-IsWholeRun answers = EndsOnce answers ⊎ (answers ≡ replies.Refused errno.Esrch ∷ [])
+-- the answers of a whole run: up to `blocked`, `denied` or `done` where the access is open, and else ESRCH alone
+abbrev pub IsWholeRun : Option AccessState → List Reply → Type 0
+IsWholeRun None answers = answers ≡ replies.Refused errno.Esrch ∷ []
+IsWholeRun (Some access) answers = EndsOnce answers
 
 -- the state after a list of steps
 abbrev pub after_steps : WorldState → List Step → WorldState
