@@ -1,0 +1,9 @@
+pub mod TestLemmas
+pub mod SpaceLemmas
+pub mod NumeralLemmas
+pub mod DecimalLemmas
+pub mod DigitLemmas
+pub mod HexLemmas
+pub mod BytesLemmas
+pub mod NameLemmas
+pub mod PathLemmas
