@@ -1,1 +1,3 @@
+pub mod InterestLemmas
+pub mod MarkCalls
 pub mod Masks
