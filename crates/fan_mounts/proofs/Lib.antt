@@ -1,0 +1,11 @@
+pub mod FirstNumbers
+pub mod Found
+pub mod Indexed
+pub mod Kept
+pub mod Names
+pub mod Reached
+pub mod Removed
+pub mod Roots
+pub mod Steps
+pub mod Walked
+pub mod Whole

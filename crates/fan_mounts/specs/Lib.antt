@@ -1,0 +1,4 @@
+pub mod Kept
+pub mod Mounts
+pub mod Pairs
+pub mod Reaches

@@ -1,0 +1,199 @@
+// All mounts, and the walk of a path through them.
+ghost use Rattle.std.specs.Prelude.{◌≡◌, ℕ, List, IfOk, IfErr, OnOk, OnErr, Ok, Err, None, IfSome, is_some, true, ◌<◌, ◌==◌, ◌≢◌, length, position, slice_get};
+ghost use Rattle.std.specs.List.{remove};
+ghost use Rattle.fan_bits.specs.Places.{IsPlace};
+ghost use Rattle.fan_mounts.specs.Kept.{AreKept};
+ghost use Rattle.fan_mounts.specs.Mounts.{AreMounts, carries, mount_at, mount_of, mounted, opening_mounts, root_mount, stands_on, unmounted, with_mount};
+ghost use Rattle.fan_mounts.specs.Reaches.{Reaches, place_of, root_place};
+ghost use Rattle.fan_tree.specs.Tree.{IsRefused, IsTree, drawn};
+
+use super::index::Index;
+use super::mount::{Mount, MountPoint};
+use super::walk;
+use fan_bits::{Errno, Place};
+use fan_io::NoMemory;
+use fan_tree::{Tree, TreeRefused};
+use std::alloc::Global;
+use std::marker::Model;
+
+/// The number of the mount at `/`.
+const ROOT_MOUNT: u32 = 3;
+
+/// All mounts of one tree.
+#[derive(Drop)]
+pub struct Mounts {
+    mounts: Vec<Mount>,
+    index: Index,
+}
+
+impl Model for Mounts {
+    ghost use Rattle.std.specs.Prelude.{List};
+    ghost use Rattle.fan_mounts.specs.declared.mount.Mount.{Mount};
+    ghost use Rattle.fan_mounts.specs.Kept.{AreIndexed};
+
+    ghost Value = { List Mount };
+
+    ghost view = { λ m. m.mounts.items };
+
+    ghost invariant = { λ m. AreIndexed m.mounts.items m.index };
+}
+
+impl Mounts {
+    /// The mount of filesystem 1 at `/`, with number 3.
+    pub fn new(alloc: Global) -> Result<Mounts, NoMemory>
+        ensures opening { IfOk result (λ mounts. mounts ≡ opening_mounts) }
+        ensures whole { IfOk result AreMounts }
+    {
+        let mut mounts = Vec::new(alloc);
+        mounts.push(Mount {
+            number: ROOT_MOUNT,
+            fs: 1,
+            point: None,
+        })?;
+        Ok(Mounts {
+            mounts,
+            index: Index::new(alloc),
+        })
+    }
+
+    /// What a path reaches: the walk begins at the mount at `/`, and crosses to the mount that stands on a
+    /// directory as it was reached. ENOENT exactly where an entry is missing, ENOTDIR exactly where a name
+    /// follows a file, whichever comes first. The names of the path are what stands between its slashes.
+    pub fn place(&self, tree: &Tree, path: &[u8]) -> Result<Place, Errno>
+        ensures place { result ≡ place_of tree.now self.now path.now }
+        ensures within { IfOk result IsPlace }
+        ensures mounted { IfOk result (λ place. is_some (mount_of self.now place.mount) ≡ true) }
+    {
+        let mut place = self.start(tree)?;
+        for name in path
+            .split(|byte| *byte == b'/')
+            .filter(|name| !name.is_empty())
+        {
+            place = walk::entered(self, tree, place, name)?;
+        }
+        Ok(place)
+    }
+
+    /// Mounts a filesystem on a place that some path reaches, and gives the number of the mount. In this
+    /// order: ENOENT exactly where there is no such filesystem, ENOTDIR where the place is a file, EBUSY
+    /// where it is the root of a mount, ENOSPC where no number is left.
+    #[tactic(auto, unfolding(crate::specs::Mounts::mounted))]
+    pub fn mount(&mut self, tree: &mut Tree, fs: u32, at: Place) -> Result<u32, TreeRefused>
+        requires reached { (path : List ℕ) × Reaches tree.old self.old path at }
+        ensures ok { IfOk result (λ number.
+            mounted tree.old self.old fs at ≡ Ok (number, tree.new, self.new)) }
+        ensures refused { IfErr result (λ why. IsRefused why (mounted tree.old self.old fs at)) }
+        ensures err { OnErr result (self.new ≡ self.old) }
+        ensures tree { OnErr result (tree.new ≡ tree.old) }
+    {
+        if tree.root(fs).is_none() {
+            return Err(TreeRefused::No(Errno::Enoent));
+        }
+        if !at.dir {
+            return Err(TreeRefused::No(Errno::Enotdir));
+        }
+        if at.parent.is_none() {
+            return Err(TreeRefused::No(Errno::Ebusy));
+        }
+        self.put(tree, fs, at)
+    }
+
+    /// Takes a mount away. EBUSY exactly for the one at `/`, and where a mount stands on a directory of it.
+    #[tactic(auto, unfolding(crate::specs::Mounts::unmounted))]
+    pub fn umount(&mut self, mount: u32) -> Result<(), Errno>
+        requires { is_some (mount_of self.old mount) ≡ true }
+        ensures ok { OnOk result (unmounted self.old mount ≡ Ok self.new) }
+        ensures refused { IfErr result (λ why. unmounted self.old mount ≡ Err why) }
+        ensures err { OnErr result (self.new ≡ self.old) }
+    {
+        if mount == ROOT_MOUNT || self.carries(mount) {
+            return Err(Errno::Ebusy);
+        }
+        // There is just one, where all numbers were drawn from one tree.
+        while let Some(at) = self.find(mount) {
+            self.remove(at);
+        }
+        Ok(())
+    }
+
+    /// Whether some mount stands on a directory, through whichever mount this is reached.
+    pub fn stands_on(&self, inode: u32) -> bool
+        ensures { result ≡ stands_on self.now inode }
+    {
+        self.index.has_dir(inode)
+    }
+
+    /// The mount that stands on a directory as another mount shows it.
+    pub(crate) fn mount_at(&self, mount: u32, dir: u32) -> Option<Mount>
+        ensures { result ≡ mount_at self.now mount dir }
+    {
+        self.index.at(mount, dir)
+    }
+
+    // The root of the mount at `/`.
+    fn start(&self, tree: &Tree) -> Result<Place, Errno>
+        ensures root { result ≡ root_place tree.now (mount_of self.now root_mount) }
+        ensures kept { AreKept self.now }
+        ensures whole { IsTree tree.now }
+    {
+        let _ = &self.mounts;
+        walk::root(tree, ROOT_MOUNT, 1)
+    }
+
+    // Whether a mount stands on a directory of a mount.
+    fn carries(&self, number: u32) -> bool
+        ensures { result ≡ carries self.now number }
+    {
+        self.index.has_mount(number)
+    }
+
+    // Draws a number for a mount on a place on which none stands yet. Room is made first, since a number
+    // that was drawn is not given back.
+    fn put(&mut self, tree: &mut Tree, fs: u32, at: Place) -> Result<u32, TreeRefused>
+        requires { mount_at self.old at.mount at.inode ≡ None }
+        ensures ok { IfOk result (λ number.
+            with_mount (drawn tree.old) self.old fs at ≡ Ok (number, tree.new, self.new)) }
+        ensures refused { IfErr result (λ why.
+            IsRefused why (with_mount (drawn tree.old) self.old fs at)) }
+        ensures err { OnErr result (self.new ≡ self.old) }
+        ensures tree { OnErr result (tree.new ≡ tree.old) }
+    {
+        self.mounts.reserve(1)?;
+        let blank = Mount {
+            number: 0,
+            fs,
+            point: Some(MountPoint {
+                mount: at.mount,
+                dir: at.inode,
+            }),
+        };
+        self.index.put(at.mount, at.inode, blank)?;
+        let Some(number) = tree.draw() else {
+            self.index.remove(at.mount, at.inode);
+            return Err(TreeRefused::No(Errno::Enospc));
+        };
+        let mount = Mount { number, ..blank };
+        self.index.set(at.mount, at.inode, mount);
+        self.mounts.push_reserved(mount);
+        Ok(number)
+    }
+
+    // Where the first mount with a number stands in the list.
+    fn find(&self, number: u32) -> Option<usize>
+        ensures { result ≡ position (λ mount. mount.number == number) self.now }
+    {
+        self.mounts.iter().position(|mount| mount.number == number)
+    }
+
+    // Takes out the mount at a place of the list, which is not the one at `/`.
+    fn remove(&mut self, at: usize)
+        requires within { at < length self.old }
+        requires other { IfSome (slice_get self.old at) (λ mount. mount.number ≢ root_mount) }
+        ensures { self.new ≡ remove self.old at }
+    {
+        let gone = self.mounts.remove(at);
+        if let Some(point) = gone.point {
+            self.index.remove(point.mount, point.dir);
+        }
+    }
+}

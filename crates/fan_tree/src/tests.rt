@@ -1,0 +1,108 @@
+// Trees and their refusals.
+use super::inode::{About, TreeRefused};
+use super::tree::Tree;
+use fan_bits::Errno;
+use std::alloc::Global;
+use std::test::Fail;
+
+// A tree with the directory `d`, 4, at its root, and in it the file `f`, 5.
+fn small_tree(alloc: Global) -> Result<Tree, TreeRefused> {
+    let mut tree = Tree::new(alloc)?;
+    tree.make(2, b"d".as_slice(), true)?;
+    tree.make(4, b"f".as_slice(), false)?;
+    Ok(tree)
+}
+
+#[test]
+fn entries_are_found_where_they_were_made(rt: HostRuntime) -> Result<(), Fail> {
+    let tree = small_tree(rt.alloc())?;
+    assert_eq!(rt; tree.child(2, b"d".as_slice()), Some(4));
+    assert_eq!(rt; tree.child(4, b"f".as_slice()), Some(5));
+    assert_eq!(rt; tree.child(2, b"f".as_slice()), None);
+    assert_eq!(rt; tree.child(4, b"d".as_slice()), None);
+    assert_eq!(rt; tree.child(2, b"".as_slice()), None);
+    let file = About {
+        fs: 1,
+        parent: Some(4),
+        dir: false,
+    };
+    assert_eq!(rt; tree.about(5), Some(file));
+    assert_eq!(rt; tree.about(3), None);
+    assert_eq!(rt; tree.about(6), None);
+    Ok(())
+}
+
+#[test]
+fn a_filesystem_gets_a_number_and_its_root_the_next(rt: HostRuntime) -> Result<(), Fail> {
+    let mut tree = small_tree(rt.alloc())?;
+    assert_eq!(rt; tree.make_fs(), Ok(6));
+    assert_eq!(rt; tree.root(6), Some(7));
+    assert_eq!(rt; tree.root(1), Some(2));
+    assert_eq!(rt; tree.root(7), None);
+    assert_eq!(rt; tree.root(4), None);
+    assert_eq!(rt; tree.make(7, b"d".as_slice(), true), Ok(8));
+    let dir = About {
+        fs: 6,
+        parent: Some(7),
+        dir: true,
+    };
+    assert_eq!(rt; tree.about(8), Some(dir));
+    assert_eq!(rt; tree.child(7, b"d".as_slice()), Some(8));
+    Ok(())
+}
+
+#[test]
+fn a_refused_step_draws_no_number(rt: HostRuntime) -> Result<(), Fail> {
+    let mut tree = small_tree(rt.alloc())?;
+    for (dir, name, why) in [
+        (3, b"f".as_slice(), Errno::Enoent),
+        (5, b"f".as_slice(), Errno::Enotdir),
+        (4, b"f".as_slice(), Errno::Eexist),
+        (2, b"d".as_slice(), Errno::Eexist),
+    ] {
+        assert_eq!(rt; tree.make(dir, name, true), Err(TreeRefused::No(why)));
+    }
+    assert_eq!(rt; tree.make(4, b"g".as_slice(), false), Ok(6));
+    Ok(())
+}
+
+#[test]
+fn the_last_number_is_65535(rt: HostRuntime) -> Result<(), Fail> {
+    let mut tree = small_tree(rt.alloc())?;
+    for number in 6..65_534 {
+        assert_eq!(rt; tree.draw(), Some(number));
+    }
+    let full = Err(TreeRefused::No(Errno::Enospc));
+    assert_eq!(rt; tree.make_fs(), Ok(65_534));
+    assert_eq!(rt; tree.root(65_534), Some(65_535));
+    assert_eq!(rt; tree.make_fs(), full);
+    assert_eq!(rt; tree.draw(), None);
+    for (dir, name, why) in [
+        (2, b"e".as_slice(), Errno::Enospc),
+        (2, b"d".as_slice(), Errno::Eexist),
+        (5, b"e".as_slice(), Errno::Enotdir),
+        (3, b"e".as_slice(), Errno::Enoent),
+    ] {
+        assert_eq!(rt; tree.make(dir, name, false), Err(TreeRefused::No(why)));
+    }
+    Ok(())
+}
+
+#[test]
+fn a_directory_has_many_entries(rt: HostRuntime) -> Result<(), Fail> {
+    let mut tree = small_tree(rt.alloc())?;
+    for number in 6..2_006u32 {
+        assert_eq!(rt;
+            tree.make(2, number.to_le_bytes().as_slice(), false),
+            Ok(number)
+        );
+    }
+    for number in 6..2_006u32 {
+        assert_eq!(rt;
+            tree.child(2, number.to_le_bytes().as_slice()),
+            Some(number)
+        );
+    }
+    assert_eq!(rt; tree.child(4, 6u32.to_le_bytes().as_slice()), None);
+    Ok(())
+}
