@@ -1,0 +1,10 @@
+pub mod Behind
+pub mod Changing
+pub mod Dropped
+pub mod Forgotten
+pub mod Listed
+pub mod Parts
+pub mod Places
+pub mod Putting
+pub mod Rising
+pub mod Same

@@ -1,0 +1,87 @@
+-- The book of all marks, and which changes it refuses.
+use Rattle.std.specs.Prelude.{◌≡◌, ℕ, ◌==◌, ◌&&◌, Bool, true, false, not, List, Option, Some, None, filter, is_some, is_none, nat_lt, if◌then◌else◌}
+use Rattle.std.specs.List.{list_any}
+use Rattle.fan_bits.specs.declared.change.Change.{Change}
+use Rattle.fan_bits.specs.declared.change.Change.TheVariants.{Put, Flush, Clear, DropGroup, DropObject}
+use Rattle.fan_bits.specs.declared.kind.Verb.{Verb}
+use Rattle.fan_bits.specs.declared.kind.Verb.TheVariants as verbs
+use Rattle.fan_bits.specs.declared.mark.Mark.{Mark}
+use Rattle.fan_bits.specs.Marks.{changed, count_of, mark_of, put_mark, same_kind}
+use Rattle.fan_bits.specs.Words.{rank_of}
+use Rattle.fan_marks.specs.declared.book.MarkRefused.{MarkRefused}
+use Rattle.fan_marks.specs.declared.book.MarkRefused.TheVariants.{NoMark, Limit, NoMemory}
+
+-- the list of marks; and for how many new marks there is room, whatever memory is left
+pub record BookState : Type 0 where
+  pub marks : List Mark
+  pub spare : ℕ
+
+-- the two answers are the same
+abbrev pub same_flag : Bool → Bool → Bool
+same_flag true other = other
+same_flag false other = not other
+
+-- the two marks are the same, field by field
+unfoldable pub same_mark : Mark → Mark → Bool
+same_mark mark other =
+    mark.group == other.group
+    && rank_of mark.class == rank_of other.class
+    && mark.object == other.object
+    && same_kind mark.kind other.kind
+    && mark.mask == other.mask
+    && mark.ignored == other.ignored
+    && same_flag mark.survives other.survives
+
+-- the marks that a change removes, or replaces by different ones
+unfoldable pub retired : List Mark → Change → List Mark
+retired marks change = filter (λ mark. not (list_any (same_mark mark) (changed marks change))) marks
+
+-- how many marks a group has at most
+abbrev pub most_marks : ℕ
+most_marks = 8192
+
+-- bits are to be taken
+abbrev pub is_removal : Verb → Bool
+is_removal verbs.Add = false
+is_removal verbs.Remove = true
+is_removal verbs.Flush = false
+
+-- bits are taken from a mark that isn't there
+abbrev pub lacks_mark : List Mark → Change → Bool
+lacks_mark marks (Put group class words object) =
+    is_removal words.verb && is_none (mark_of marks group object)
+lacks_mark marks (Flush group kind) = false
+lacks_mark marks (Clear object) = false
+lacks_mark marks (DropGroup group) = false
+lacks_mark marks (DropObject object) = false
+
+-- a group that has 8,192 marks would get a new one
+abbrev pub is_too_many : List Mark → Change → Bool
+is_too_many marks (Put group class words object) =
+    is_none (mark_of marks group object)
+    && is_some (put_mark None group class words object)
+    && not (nat_lt (count_of marks group) most_marks)
+is_too_many marks (Flush group kind) = false
+is_too_many marks (Clear object) = false
+is_too_many marks (DropGroup group) = false
+is_too_many marks (DropObject object) = false
+
+-- why a change is refused, if it is
+abbrev pub refusal_of : List Mark → Change → Bool → Option MarkRefused
+refusal_of marks change unlimited =
+    if lacks_mark marks change then Some NoMark
+    else if not unlimited && is_too_many marks change then Some (Limit most_marks) else None
+
+-- a change that may make a new mark, and so may want memory
+abbrev pub may_grow : Change → Bool
+may_grow (Put group class words object) = true
+may_grow (Flush group kind) = false
+may_grow (Clear object) = false
+may_grow (DropGroup group) = false
+may_grow (DropObject object) = false
+
+-- the refusal is that one, or memory ran out where there was no room
+abbrev pub IsRefused : BookState → MarkRefused → Option MarkRefused → Type 0
+IsRefused book NoMark refusal = refusal ≡ Some NoMark
+IsRefused book (Limit marks) refusal = refusal ≡ Some (Limit marks)
+IsRefused book NoMemory refusal = (refusal ≡ None) × (book.spare ≡ 0)
