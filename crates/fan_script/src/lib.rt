@@ -1,0 +1,23 @@
+//! Lines of a script: what each asks for, what is answered to it, and how it is read.
+#![tactic(auto)]
+
+mod accesses;
+mod built_steps;
+mod fields;
+mod forms;
+mod groups;
+mod laws;
+mod line;
+mod ops;
+mod reply;
+mod step;
+#[cfg(test)]
+mod tests;
+mod tree;
+mod words;
+
+pub use built_steps::built;
+pub use laws::{at_most_one_line, finds_the_line};
+pub use line::{Line, LineRefused, read_line};
+pub use reply::{Reply, StepOutcome};
+pub use step::{OpWord, Step};
