@@ -4,7 +4,7 @@ use Rattle.std.specs.Prelude.{IfSome}
 use Rattle.std.specs.Io.KnownBytes.{Appends}
 use Rattle.fan_io.specs.Bytes.{GaveMore}
 use Rattle.fan_world.specs.World.{WorldState, opening_world}
-use Rattle.fan_shell.specs.declared.line.Line.{Line}
+use Rattle.fan_script.specs.declared.line.Line.{Line}
 use Rattle.fan_shell.specs.declared.status.Status.{Status}
 use Rattle.fan_shell.specs.declared.status.Status.TheVariants as statuses
 use Rattle.fan_shell.specs.Outcome.{Completes}

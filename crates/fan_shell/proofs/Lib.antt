@@ -1,14 +1,7 @@
-pub mod OptionLemmas
-pub mod WordLemmas
-pub mod NumberLemmas
-pub mod PathLemmas
-pub mod FlagLemmas
-pub mod HexLemmas
-pub mod FormLemmas
-pub mod LineLemmas
 pub mod RunLemmas
 pub mod PlayLemmas
 pub mod SplitLemmas
+pub mod TakenLemmas
 pub mod TranscriptLemmas
 pub mod CommandLemmas
 pub mod CompleteLemmas

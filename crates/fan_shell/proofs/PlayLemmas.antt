@@ -5,26 +5,10 @@ use Rattle.std.specs.Io.KnownBytes.{Appends}
 use Rattle.std.proofs.KnownBytes.{Appends-trans}
 use Rattle.fan_io.specs.Bytes.{AppendsFront}
 use Rattle.fan_world.specs.World.{WorldState, opening_world}
-use Rattle.fan_shell.specs.declared.line.Line.{Line}
 use Rattle.fan_shell.specs.declared.status.Status.{Status}
 use Rattle.fan_shell.specs.declared.status.Status.TheVariants as statuses
-use Rattle.fan_shell.specs.Lines.{LineOf}
 use Rattle.fan_shell.specs.Playing.{turn, after_turn, played, play}
-use Rattle.fan_shell.specs.Reading.{line_at}
 use Rattle.fan_shell.specs.Script.{lines_of}
-use Rattle.fan_shell.proofs.LineLemmas.{line_takes, line_again}
-
--- a line that was found is the one that is read
-pub line_from_found : (bytes : List ℕ) (line : Line) → LineOf bytes line → Some line ≡ line_at bytes
-line_from_found bytes line found = sym (line_again bytes line found)
-
-none_at : (bytes : List ℕ) (read : Option Line) → line_at bytes ≡ read → ((line : Line) → LineOf bytes line → ⊥) → read ≡ None
-none_at bytes None is bad = refl
-none_at bytes (Some line) is bad = absurd (bad line (line_takes bytes line is))
-
--- no line is read where there is none
-pub no_line_from_bad : (bytes : List ℕ) → ((line : Line) → LineOf bytes line → ⊥) → ◌≡◌ {A = Option Line} None (line_at bytes)
-no_line_from_bad bytes bad = sym (none_at bytes (line_at bytes) refl bad)
 
 -- a text, and then what lines that follow print
 abbrev pub behind : List ℕ → List ℕ × Status → List ℕ × Status

@@ -1,8 +1,8 @@
 -- The texts of runs, one single step after another.
 use Rattle.std.proofs.Common.{◌≡◌, ℕ, zero, suc, ◌-◌, ◌<◌, List, [], ◌∷◌, ◌++◌, true, false, refl, arith, append_assoc, append-nil}
 use Rattle.std.specs.Prelude.{codes}
-use Rattle.fan_world.specs.declared.step.Step.TheVariants as steps
-use Rattle.fan_world.specs.declared.step.Reply.{Reply}
+use Rattle.fan_script.specs.declared.step.Step.TheVariants as steps
+use Rattle.fan_script.specs.declared.reply.Reply.{Reply}
 use Rattle.fan_world.specs.Run.{ends_run, ran}
 use Rattle.fan_world.specs.World.{WorldState, next}
 use Rattle.fan_shell.specs.Texts.{reply_text, more_text, answers_text}

@@ -1,12 +1,13 @@
 -- The texts of replies, without their LF.
-use Rattle.std.specs.Prelude.{ℕ, ◌+◌, ◌/◌, ◌%◌, List, [], ◌∷◌, ◌++◌, codes, nat_lt, if◌then◌else◌}
+use Rattle.std.specs.Prelude.{ℕ, List, [], ◌∷◌, ◌++◌, codes}
 use Rattle.std.specs.Fmt.{decimal}
 use Rattle.fan_bits.specs.declared.errno.Errno.{Errno}
 use Rattle.fan_bits.specs.declared.errno.Errno.TheVariants as errno
-use Rattle.fan_world.specs.declared.step.Reply.{Reply}
-use Rattle.fan_world.specs.declared.step.Reply.TheVariants as replies
-use Rattle.fan_world.specs.declared.step.StepOutcome.{StepOutcome}
-use Rattle.fan_world.specs.declared.step.StepOutcome.TheVariants as outcomes
+use Rattle.fan_script.specs.declared.reply.Reply.{Reply}
+use Rattle.fan_script.specs.declared.reply.Reply.TheVariants as replies
+use Rattle.fan_script.specs.declared.reply.StepOutcome.{StepOutcome}
+use Rattle.fan_script.specs.declared.reply.StepOutcome.TheVariants as outcomes
+use Rattle.fan_text.specs.Spelling.{hex_text}
 
 -- a refusal is the name of its errno
 unfoldable pub errno_text : Errno → List ℕ
@@ -25,15 +26,6 @@ errno_text errno.Eagain = codes "EAGAIN"
 errno_text errno.Esrch = codes "ESRCH"
 errno_text errno.Eacces = codes "EACCES"
 
--- a hexadecimal digit in lower case
-abbrev pub hex_digit : ℕ → ℕ
-hex_digit value = if nat_lt value 10 then 48 + value else 87 + value
-
--- two digits for each byte
-abbrev pub hex_text : List ℕ → List ℕ
-hex_text [] = []
-hex_text (byte ∷ bytes) = (hex_digit (byte / 16) ∷ hex_digit (byte % 16) ∷ []) ++ hex_text bytes
-
 -- what a single step of an access did
 unfoldable pub outcome_text : StepOutcome → List ℕ
 outcome_text (outcomes.Asked group) = codes "asked " ++ decimal group
@@ -47,14 +39,27 @@ outcome_text (outcomes.Merged group) = codes "told " ++ decimal group ++ codes "
 outcome_text (outcomes.Overflow group) = codes "told " ++ decimal group ++ codes " overflow"
 outcome_text outcomes.Done = codes "done"
 
+-- single steps behind another, each after a comma and a space
+abbrev pub later_text : List StepOutcome → List ℕ
+later_text [] = []
+later_text (outcome ∷ more) = codes ", " ++ outcome_text outcome ++ later_text more
+
+-- what single steps of an access did, with a comma and a space between each two
+abbrev pub outcomes_text : List StepOutcome → List ℕ
+outcomes_text [] = []
+outcomes_text (outcome ∷ more) = outcome_text outcome ++ later_text more
+
 -- what is printed for a reply
 unfoldable pub reply_text : Reply → List ℕ
 reply_text replies.Done = codes "ok"
 reply_text (replies.Inode object) = codes "inode " ++ decimal object
+reply_text (replies.Fs fs) = codes "fs " ++ decimal fs
+reply_text (replies.Mount mount) = codes "mount " ++ decimal mount
 reply_text (replies.Group group) = codes "group " ++ decimal group
 reply_text (replies.Bytes bytes) = codes "bytes " ++ hex_text bytes
 reply_text (replies.Refused refusal) = errno_text refusal
-reply_text (replies.Out outcome) = outcome_text outcome
+reply_text (replies.Reclaimed marks) = codes "reclaimed " ++ decimal marks
+reply_text (replies.Out outs) = outcomes_text outs
 
 -- answers behind another, each after a comma and a space
 abbrev pub more_text : List Reply → List ℕ

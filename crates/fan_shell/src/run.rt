@@ -1,25 +1,37 @@
 // `run`: the single steps of an access, up to an answer that ends the run.
 ghost use Rattle.std.specs.Prelude.{◌≡◌, ◌+◌, ◌<◌, ◌≤◌, ◌^◌, ◌++◌, IfOk, OnOk};
-ghost use Rattle.fan_world.specs.Run.{ends_run, is_last, ran, most_answers};
+ghost use Rattle.fan_world.specs.Run.{ends_run, is_end, is_last, ran, most_answers};
 ghost use Rattle.fan_world.specs.World.{next};
-ghost use Rattle.fan_world.specs.declared.step.Step.TheVariants as steps;
+ghost use Rattle.fan_script.specs.declared.step.Step.TheVariants as steps;
 ghost use Rattle.fan_shell.specs.Texts.{reply_text, more_text, answers_text};
 
 use crate::texts::{push_reply, push_text};
 use fan_io::NoMemory;
-use fan_world::{Reply, Step, StepOutcome, World};
+use fan_script::{Reply, Step, StepOutcome};
+use fan_world::World;
 use std::alloc::Global;
 
 // How many single steps a run has at most.
 const MOST_ANSWERS: u32 = 385;
 
 // Whether an answer ends a run.
-fn is_end(reply: &Reply) -> bool
+fn ends_run(reply: &Reply) -> bool
     ensures { result ≡ ends_run reply.now }
 {
     match reply {
-        Reply::Out(outcome) => is_last(*outcome),
+        Reply::Out(outcomes) => is_end(outcomes.as_slice()),
         _ => true,
+    }
+}
+
+// Whether the last of some outcomes ends a run.
+fn is_end(outcomes: &[StepOutcome]) -> bool
+    ensures { result ≡ is_end outcomes.now }
+{
+    match outcomes {
+        [] => true,
+        [last] => is_last(*last),
+        [_, more @ ..] => is_end(more),
     }
 }
 
@@ -51,7 +63,7 @@ fn push_answer(
 {
     let reply = world.step(&Step::Advance { access })?;
     push_reply(alloc, out, &reply)?;
-    Ok(is_end(&reply))
+    Ok(ends_run(&reply))
 }
 
 // Puts the answers of so many further single steps at the end, each behind a comma.

@@ -3,27 +3,40 @@ ghost use Rattle.std.specs.Prelude.{◌≡◌, ◌≢◌, ◌+◌, ◌*◌, ◌<
 ghost use Rattle.std.specs.Io.KnownBytes.{Appends};
 ghost use Rattle.fan_io.specs.Bytes.{AppendsFront};
 ghost use Rattle.fan_io.specs.Faults.{Rose};
-ghost use Rattle.fan_shell.specs.Reading.{line_at};
-ghost use Rattle.fan_shell.specs.Playing.{turn, play};
+ghost use Rattle.fan_shell.specs.Playing.{if_built, taken_at, turn, play};
 ghost use Rattle.fan_shell.specs.Status.{IsTold, IsToldOrCut};
 ghost use Rattle.fan_shell.specs.Script.{answered, bad_line_text, lines_of};
 
-use crate::line::{Line, LineRefused, read_line};
 use crate::run::push_run;
 use crate::status::Status;
 use crate::texts::{push_number, push_reply, push_text};
 use fan_io::{Failed, NoMemory, Sink, put_all};
+use fan_script::{Line, LineRefused, built, read_line};
 use fan_world::World;
 use std::alloc::Global;
 
-// The line that the bytes are, if they are one.
-#[tactic(auto, using(crate::proofs::PlayLemmas::no_line_from_bad))]
+// The line, where its step is built.
+fn if_built(line: Line) -> Option<Line>
+    ensures { result ≡ if_built (Some line) }
+{
+    match line {
+        Line::One(step) => if built(&step) {
+            Some(Line::One(step))
+        } else {
+            None
+        },
+        Line::Run(access) => Some(Line::Run(access)),
+    }
+}
+
+// The line that the bytes are, if they are one whose step is built.
+#[tactic(auto, using(fan_script::proofs::LineLemmas::no_line_from_bad), unfolding(crate::specs::Playing::taken_at))]
 fn read_if_line(alloc: Global, bytes: &[u8]) -> Result<Option<Line>, NoMemory>
-    ensures line { IfOk result (λ line. line ≡ line_at bytes.now) }
-    ensures long { IfOk result (λ line. IfSome line (λ _. 5 ≤ length bytes.now)) }
+    ensures line { IfOk result (λ line. line ≡ taken_at bytes.now) }
+    ensures long { IfOk result (λ line. IfSome line (λ _. 4 ≤ length bytes.now)) }
 {
     match read_line(alloc, bytes) {
-        Ok(line) => Ok(Some(line)),
+        Ok(line) => Ok(if_built(line)),
         Err(LineRefused::BadLine) => Ok(None),
         Err(LineRefused::NoMemory) => Err(NoMemory),
     }
@@ -78,7 +91,7 @@ fn answer_line(
     ensures start { IfOk result (λ good. (turn world.old.state number bytes.now).1
         ≡ (if good then Some world.new.state else None)) }
     ensures steps { world.new.steps ≤ world.old.steps + 385 }
-    ensures long { IfOk result (λ good. good ≡ true → 5 ≤ length bytes.now) }
+    ensures long { IfOk result (λ good. good ≡ true → 4 ≤ length bytes.now) }
 {
     match read_if_line(alloc, bytes)? {
         None => {
@@ -126,7 +139,9 @@ pub(crate) fn write_transcript<K: Sink>(alloc: Global, script: &[u8], sink: &mut
     ensures others { IsToldOrCut result }
     ensures kept { K.faults sink.old ≤ K.faults sink.new }
 {
-    let mut world = World::new(alloc);
+    let Ok(mut world) = World::new(alloc) else {
+        return Status::NoMemory;
+    };
     let mut number = 1;
     let mut rest = script;
     let mut text = Vec::new(alloc);

@@ -1,11 +1,12 @@
 // The texts of replies.
 ghost use Rattle.std.specs.Prelude.{◌≡◌, ◌+◌, ◌<◌, ◌++◌, OnOk, codes};
 ghost use Rattle.std.specs.Fmt.{decimal};
-ghost use Rattle.fan_shell.specs.Texts.{errno_text, hex_digit, hex_text, outcome_text, reply_text};
+ghost use Rattle.fan_shell.specs.Texts.{errno_text, later_text, outcome_text, outcomes_text, reply_text};
 
 use fan_bits::Errno;
 use fan_io::NoMemory;
-use fan_world::{Reply, StepOutcome};
+use fan_script::{Reply, StepOutcome};
+use fan_text::write_bytes;
 use std::alloc::Global;
 
 // The name of a refusal.
@@ -47,34 +48,13 @@ pub(crate) fn push_number(alloc: Global, out: &mut Vec<u8>, number: u64) -> Resu
     push_text(out, text.as_str())
 }
 
-fn digit(value: u8) -> u8
-    requires { value < 16 }
-    ensures { result ≡ hex_digit value }
-{
-    if value < 10 {
-        b'0' + value
-    } else {
-        b'a' - 10 + value
-    }
-}
-
-// Puts bytes at the end, two hexadecimal digits for each.
-fn push_hex(out: &mut Vec<u8>, bytes: &[u8]) -> Result<(), NoMemory>
-    ensures { OnOk result (out.new.items ≡ out.old.items ++ hex_text bytes.now) }
-{
-    for byte in bytes {
-        out.extend_from_slice(&[digit(byte / 16), digit(byte % 16)])?;
-    }
-    Ok(())
-}
-
 // Puts a word and a number at the end.
 #[tactic(auto, using(std::proofs::Common::append_assoc))]
-fn push_named(alloc: Global, out: &mut Vec<u8>, name: &str, number: u32) -> Result<(), NoMemory>
+fn push_named(alloc: Global, out: &mut Vec<u8>, name: &str, number: u64) -> Result<(), NoMemory>
     ensures { OnOk result (out.new.items ≡ out.old.items ++ (name.now ++ decimal number)) }
 {
     push_text(out, name)?;
-    push_number(alloc, out, number.into())
+    push_number(alloc, out, number)
 }
 
 // Puts how a group was told at the end.
@@ -93,17 +73,43 @@ fn push_outcome(alloc: Global, out: &mut Vec<u8>, outcome: StepOutcome) -> Resul
     ensures { OnOk result (out.new.items ≡ out.old.items ++ outcome_text outcome) }
 {
     match outcome {
-        StepOutcome::Asked(group) => push_named(alloc, out, "asked ", group),
-        StepOutcome::Blocked(group) => push_named(alloc, out, "blocked ", group),
-        StepOutcome::Allowed(group) => push_named(alloc, out, "allowed ", group),
-        StepOutcome::Denied(group) => push_named(alloc, out, "denied ", group),
-        StepOutcome::Closed(group) => push_named(alloc, out, "closed ", group),
-        StepOutcome::Full(group) => push_named(alloc, out, "full ", group),
+        StepOutcome::Asked(group) => push_named(alloc, out, "asked ", group.into()),
+        StepOutcome::Blocked(group) => push_named(alloc, out, "blocked ", group.into()),
+        StepOutcome::Allowed(group) => push_named(alloc, out, "allowed ", group.into()),
+        StepOutcome::Denied(group) => push_named(alloc, out, "denied ", group.into()),
+        StepOutcome::Closed(group) => push_named(alloc, out, "closed ", group.into()),
+        StepOutcome::Full(group) => push_named(alloc, out, "full ", group.into()),
         StepOutcome::Queued(group) => push_told(alloc, out, group, " queued"),
         StepOutcome::Merged(group) => push_told(alloc, out, group, " merged"),
         StepOutcome::Overflow(group) => push_told(alloc, out, group, " overflow"),
         StepOutcome::Done => push_text(out, "done"),
     }
+}
+
+// Puts what single steps did at the end, with a comma between each two.
+#[tactic(auto, using(std::proofs::Common::append_assoc))]
+fn push_outcomes(alloc: Global, out: &mut Vec<u8>, outcomes: &[StepOutcome]) -> Result<(), NoMemory>
+    ensures { OnOk result (out.new.items ≡ out.old.items ++ outcomes_text outcomes.now) }
+{
+    match outcomes {
+        [] => Ok(()),
+        [first, more @ ..] => {
+            push_outcome(alloc, out, *first)?;
+            push_later(alloc, out, more)
+        }
+    }
+}
+
+// Puts what further single steps did at the end, each behind a comma.
+#[tactic(auto, using(std::proofs::Common::append_assoc))]
+fn push_later(alloc: Global, out: &mut Vec<u8>, outcomes: &[StepOutcome]) -> Result<(), NoMemory>
+    ensures { OnOk result (out.new.items ≡ out.old.items ++ later_text outcomes.now) }
+{
+    for outcome in outcomes {
+        push_text(out, ", ")?;
+        push_outcome(alloc, out, *outcome)?;
+    }
+    Ok(())
 }
 
 /// Puts the text of a reply at the end.
@@ -113,13 +119,16 @@ pub(crate) fn push_reply(alloc: Global, out: &mut Vec<u8>, reply: &Reply) -> Res
 {
     match reply {
         Reply::Done => push_text(out, "ok"),
-        Reply::Inode(object) => push_named(alloc, out, "inode ", *object),
-        Reply::Group(group) => push_named(alloc, out, "group ", *group),
+        Reply::Inode(object) => push_named(alloc, out, "inode ", (*object).into()),
+        Reply::Fs(fs) => push_named(alloc, out, "fs ", (*fs).into()),
+        Reply::Mount(mount) => push_named(alloc, out, "mount ", (*mount).into()),
+        Reply::Group(group) => push_named(alloc, out, "group ", (*group).into()),
         Reply::Bytes(bytes) => {
             push_text(out, "bytes ")?;
-            push_hex(out, bytes.as_slice())
+            write_bytes(out, bytes.as_slice())
         }
         Reply::Refused(refusal) => push_text(out, errno_name(*refusal)),
-        Reply::Out(outcome) => push_outcome(alloc, out, *outcome),
+        Reply::Reclaimed(marks) => push_named(alloc, out, "reclaimed ", *marks),
+        Reply::Out(outcomes) => push_outcomes(alloc, out, outcomes.as_slice()),
     }
 }

@@ -15,11 +15,12 @@ use Rattle.fan_listener.specs.Records.{read_of}
 use Rattle.fan_listener.specs.Responses.{written, answer_of, closed_of}
 use Rattle.fan_listener.proofs.Bounds.{makes-put, makes-read_of, makes-written, makes-answer_of, makes-closed_of}
 use Rattle.fan_world.specs.declared.access.WaitingFor.{WaitingFor}
-use Rattle.fan_world.specs.declared.marks.Mark.{Mark}
-use Rattle.fan_world.specs.declared.step.Reply.{Reply}
+use Rattle.fan_bits.specs.declared.mark.Mark.{Mark}
+use Rattle.fan_script.specs.declared.reply.Reply.{Reply}
 use Rattle.fan_world.specs.Accesses.{AccessState, access_step, step_by, looked, asked_next, told_next, answer_at, answer_from, put_at, put_to, asked_event, told_event, asks, tells, has_number, listener_at, with_listener}
 use Rattle.fan_world.specs.Bounds.{IsBounded, AreBounded}
-use Rattle.fan_world.specs.World.{is_open, most_groups, queue_limit, grouped, if_open, open_listener, advanced, advanced_at, read_answer, read_at, read_from, write_answer, written_at, written_to, closed_at, closed_group}
+use Rattle.fan_world.specs.Marking.{if_open, open_listener}
+use Rattle.fan_world.specs.World.{is_open, most_groups, queue_limit, grouped, advanced, advanced_at, read_answer, read_at, read_from, write_answer, written_at, written_to, closed_at, closed_group}
 
 within_from_slice_get : {A : Type 0} (xs : List A) (place : ℕ) (x : A) → slice_get xs place ≡ Some x → place < length xs
 within_from_slice_get [] place x here = absurd (cc)

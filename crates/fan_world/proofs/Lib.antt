@@ -1,12 +1,15 @@
 pub mod Ahead
+pub mod Asked
 pub mod Bounded
 pub mod CauseLemmas
 pub mod OpenAccess
+pub mod Kept
 pub mod Opens
 pub mod Passing
-pub mod Rising
 pub mod RunsEnd
 pub mod Sound
+pub mod Standing
 pub mod Steps
 pub mod Verdicts
+pub mod Wanting
 pub mod WholeAccess

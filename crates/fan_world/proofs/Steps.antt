@@ -8,8 +8,8 @@ use Rattle.fan_listener.specs.declared.answers.WriteRefused.{WriteRefused}
 use Rattle.fan_listener.specs.ListenerState.{ListenerState}
 use Rattle.fan_listener.specs.Records.{read_of}
 use Rattle.fan_listener.specs.Responses.{written}
-use Rattle.fan_world.specs.declared.step.Reply.TheVariants as replies
-use Rattle.fan_world.specs.declared.step.StepOutcome.{StepOutcome}
+use Rattle.fan_script.specs.declared.reply.Reply.TheVariants as replies
+use Rattle.fan_script.specs.declared.reply.StepOutcome.{StepOutcome}
 use Rattle.fan_listener.proofs.FirstLemmas.{find_none, found_at, changed_at, removed_at}
 use Rattle.fan_world.specs.Accesses.{AccessState, access_step, has_number, kept_access}
 use Rattle.fan_world.specs.World.{advanced, after_step, read_answer, read_errno, write_answer, write_errno}
@@ -43,13 +43,13 @@ accesses_after false number place access new accesses found is =
     changed_at (has_number number) (λ old. new) accesses place access found is
 
 -- the single step of the access at a place is that of the access with its number
-pub advances : (finished : Bool) (number place : ℕ) (access new : AccessState) (accesses left : List AccessState) (listeners after : List ListenerState) (outcome : StepOutcome) → position (has_number number) accesses ≡ Some place → access ≡ get_or accesses place access → (outcome, after, kept_access outcome new) ≡ access_step listeners access → kept_access outcome new ≡ cond finished None (Some new) → left ≡ cond finished (remove (set accesses place new) place) (set accesses place new) → (replies.Out outcome, after, left) ≡ advanced listeners accesses number
+pub advances : (finished : Bool) (number place : ℕ) (access new : AccessState) (accesses left : List AccessState) (listeners after : List ListenerState) (outcome : StepOutcome) → position (has_number number) accesses ≡ Some place → access ≡ get_or accesses place access → (outcome, after, kept_access outcome new) ≡ access_step listeners access → kept_access outcome new ≡ cond finished None (Some new) → left ≡ cond finished (remove (set accesses place new) place) (set accesses place new) → (replies.Out (outcome ∷ []), after, left) ≡ advanced listeners accesses number
 unfolding advanced
 advances finished number place access new accesses left listeners after outcome found is step kept leaves =
     let here : find (has_number number) accesses ≡ Some access = found_at (has_number number) accesses place access found is in
     rw here (
-    ap (λ (rest : List AccessState). (replies.Out outcome, after, rest)) (leaves ∙ accesses_after finished number place access new accesses found is ∙ ap (λ access. after_step number access accesses) (sym kept))
-    ∙ ap (λ (r : StepOutcome × List ListenerState × Option AccessState). (replies.Out r.0, r.1, after_step number r.2 accesses)) step)
+    ap (λ (rest : List AccessState). (replies.Out (outcome ∷ []), after, rest)) (leaves ∙ accesses_after finished number place access new accesses found is ∙ ap (λ access. after_step number access accesses) (sym kept))
+    ∙ ap (λ (r : StepOutcome × List ListenerState × Option AccessState). (replies.Out (r.0 ∷ []), r.1, after_step number r.2 accesses)) step)
 
 -- no open access has the number
 pub advances_none : (number : ℕ) (accesses : List AccessState) (listeners : List ListenerState) → position (has_number number) accesses ≡ None → (replies.Refused errno.Esrch, listeners, accesses) ≡ advanced listeners accesses number

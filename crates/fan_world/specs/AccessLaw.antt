@@ -1,14 +1,15 @@
 -- The law of an access from its begin on: it asks groups in order, and then tells groups in order.
-use Rattle.std.specs.Prelude.{◌≡◌, ℕ, ◌==◌, ◌++◌, Bool, true, false, MatchBool, List, [], ◌∷◌, Option, Some, None, find, is_none, if◌then◌else◌}
-use Rattle.fan_world.specs.declared.marks.Mark.{Mark}
-use Rattle.fan_world.specs.declared.step.Reply.{Reply}
-use Rattle.fan_world.specs.declared.step.Reply.TheVariants as replies
-use Rattle.fan_world.specs.declared.step.Step.{Step}
-use Rattle.fan_world.specs.declared.step.Step.TheVariants as steps
-use Rattle.fan_world.specs.declared.step.StepOutcome.{StepOutcome}
-use Rattle.fan_world.specs.declared.step.StepOutcome.TheVariants as outcomes
+use Rattle.std.specs.Prelude.{◌≡◌, ℕ, ◌==◌, ◌++◌, Bool, true, false, MatchBool, List, [], ◌∷◌, Option, Some, None, filter, find, is_none, if◌then◌else◌}
+use Rattle.fan_bits.specs.declared.mark.Mark.{Mark}
+use Rattle.fan_bits.specs.declared.place.Place.{Place}
+use Rattle.fan_script.specs.declared.reply.Reply.{Reply}
+use Rattle.fan_script.specs.declared.reply.Reply.TheVariants as replies
+use Rattle.fan_script.specs.declared.reply.StepOutcome.{StepOutcome}
+use Rattle.fan_script.specs.declared.reply.StepOutcome.TheVariants as outcomes
+use Rattle.fan_script.specs.declared.step.Step.{Step}
+use Rattle.fan_script.specs.declared.step.Step.TheVariants as steps
 use Rattle.fan_world.specs.Accesses.{has_number}
-use Rattle.fan_world.specs.Marks.{asked_groups, told_groups}
+use Rattle.fan_world.specs.Asks.{asked_groups, told_groups}
 use Rattle.fan_world.specs.World.{WorldState, next}
 
 -- the group whose ask an outcome settles: allowed, denied, closed or full
@@ -63,25 +64,34 @@ settles (outcomes.Merged group) = true
 settles (outcomes.Overflow group) = true
 settles outcomes.Done = false
 
--- the outcome in a reply, where it settles an ask or tells a group
+-- the outcomes in a reply that settle an ask or tell a group
 abbrev pub settled_in : Reply → List StepOutcome
 settled_in replies.Done = []
 settled_in (replies.Inode object) = []
+settled_in (replies.Fs fs) = []
+settled_in (replies.Mount mount) = []
 settled_in (replies.Group group) = []
 settled_in (replies.Bytes bytes) = []
+settled_in (replies.Reclaimed marks) = []
 settled_in (replies.Refused refusal) = []
-settled_in (replies.Out outcome) = if settles outcome then outcome ∷ [] else []
+settled_in (replies.Out outs) = filter settles outs
 
 -- the same, of a step of one access
 abbrev pub settled_by : ℕ → Step → Reply → List StepOutcome
 settled_by number (steps.MkFile path) reply = []
+settled_by number (steps.MkDir path) reply = []
+settled_by number steps.MkFs reply = []
+settled_by number (steps.Mount fs path) reply = []
+settled_by number (steps.Umount path) reply = []
+settled_by number (steps.Limit entries) reply = []
 settled_by number (steps.Init flags) reply = []
-settled_by number (steps.Mark group mask path) reply = []
-settled_by number (steps.Begin access pid tid path) reply = []
+settled_by number (steps.Mark group flags mask path) reply = []
+settled_by number (steps.Begin access pid tid op path second) reply = []
 settled_by number (steps.Advance access) reply = if access == number then settled_in reply else []
 settled_by number (steps.Read group size) reply = []
 settled_by number (steps.Write group bytes) reply = []
 settled_by number (steps.Close group) reply = []
+settled_by number steps.Grace reply = []
 
 -- what the steps of an access settle and tell, among any steps from a world on, in their order
 unfoldable pub outcomes_of : ℕ → WorldState → List Step → List StepOutcome
@@ -109,7 +119,7 @@ AsksThenTells (group ∷ asks) tells (outcome ∷ more) finished =
     (asked_by outcome ≡ Some group)
     × MatchBool (is_denial outcome) ((more ≡ []) × (finished ≡ true)) (AsksThenTells asks tells more finished)
 
--- an access of an object goes by the marks that stood at its begin
-abbrev pub GoesInOrder : List Mark → ℕ → List StepOutcome → Bool → Type 0
-GoesInOrder marks object outcomes finished =
-    AsksThenTells (asked_groups marks object) (told_groups marks object) outcomes finished
+-- an access of a place goes by the marks that stood at its begin
+abbrev pub GoesInOrder : List Mark → Place → List StepOutcome → Bool → Type 0
+GoesInOrder marks place outcomes finished =
+    AsksThenTells (asked_groups marks place) (told_groups marks place) outcomes finished

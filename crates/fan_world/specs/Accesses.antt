@@ -1,5 +1,7 @@
 -- Accesses in progress: what each goes by from its begin to its end, and its single step.
 use Rattle.std.specs.Prelude.{ℕ, ◌+◌, ◌-◌, ◌==◌, Bool, true, false, List, Option, Some, None, slice_get, slice_set, zero, suc, if◌then◌else◌}
+use Rattle.fan_bits.specs.declared.mark.Mark.{Mark}
+use Rattle.fan_bits.specs.declared.place.Place.{Place}
 use Rattle.fan_bits.specs.Words.{occurs, report_tid}
 use Rattle.fan_listener.specs.declared.answers.Answer.{Answer}
 use Rattle.fan_listener.specs.declared.answers.Answer.TheVariants as answers
@@ -10,33 +12,35 @@ use Rattle.fan_listener.specs.declared.queue.Put.TheVariants as puts
 use Rattle.fan_listener.specs.ListenerState.{ListenerState}
 use Rattle.fan_listener.specs.Queue.{put}
 use Rattle.fan_listener.specs.Responses.{answer_of}
+use Rattle.fan_script.specs.declared.reply.StepOutcome.{StepOutcome}
+use Rattle.fan_script.specs.declared.reply.StepOutcome.TheVariants as outcomes
 use Rattle.fan_world.specs.declared.access.Opening.{Opening}
 use Rattle.fan_world.specs.declared.access.WaitingFor.{WaitingFor}
-use Rattle.fan_world.specs.declared.marks.Mark.{Mark}
-use Rattle.fan_world.specs.declared.step.StepOutcome.{StepOutcome}
-use Rattle.fan_world.specs.declared.step.StepOutcome.TheVariants as outcomes
-use Rattle.fan_world.specs.Marks.{asked_groups, told_groups}
+use Rattle.fan_world.specs.Asks.{asked_groups, told_groups, open_bit, open_perm_bit}
 
--- an access: its number, the object that it opens, who opens it, and the marks as they stood at its begin;
--- how many of its asks are settled, the ask that waits for an answer, and how many groups were told
+-- an access: its number, the place that it opens, and who opens it; the groups to ask and to tell, which its
+-- begin found by the marks as they stood; how many of its asks are settled, the ask that waits for an answer,
+-- and how many groups were told
 pub record AccessState : Type 0 where
   pub number : ℕ
-  pub object : ℕ
+  pub place : Place
   pub pid : ℕ
   pub tid : ℕ
-  pub marks : List Mark
+  pub to_ask : List ℕ
+  pub to_tell : List ℕ
   pub settled : ℕ
   pub waiting : Option WaitingFor
   pub told : ℕ
 
 -- an access at its begin
-abbrev pub beginning : Opening → ℕ → List Mark → AccessState
-beginning opening object marks = record {
+abbrev pub beginning : Opening → Place → List Mark → AccessState
+beginning opening place marks = record {
   number = opening.number;
-  object = object;
+  place = place;
   pid = opening.pid;
   tid = opening.tid;
-  marks = marks;
+  to_ask = asked_groups marks place;
+  to_tell = told_groups marks place;
   settled = 0;
   waiting = None;
   told = 0;
@@ -44,25 +48,33 @@ beginning opening object marks = record {
 
 -- the groups that the access asks, in order
 abbrev pub asks : AccessState → List ℕ
-asks access = asked_groups access.marks access.object
+asks access = access.to_ask
 
 -- the groups that the access tells, in order
 abbrev pub tells : AccessState → List ℕ
-tells access = told_groups access.marks access.object
+tells access = access.to_tell
 
 -- the process that a group is told of, or the thread with FAN_REPORT_TID
 abbrev pub who_of : ℕ → AccessState → ℕ
 who_of flags access = if occurs flags report_tid then access.tid else access.pid
 
--- what a group is asked: FAN_OPEN_PERM on the object, through the mount at the root
+-- an event of the opening for a group that gets descriptors: the inode, through its mount
+abbrev pub event_of : ℕ → Bool → ℕ → AccessState → Event
+event_of bits perm flags access = record {
+  bits = bits;
+  ondir = access.place.dir;
+  who = who_of flags access;
+  perm = perm;
+  target = targets.Fd access.place.mount access.place.inode;
+}
+
+-- what a group is asked: FAN_OPEN_PERM
 abbrev pub asked_event : ℕ → AccessState → Event
-asked_event flags access =
-    record { bits = 0x10000; ondir = false; who = who_of flags access; perm = true; target = targets.Fd 3 access.object }
+asked_event flags access = event_of open_perm_bit true flags access
 
 -- what a group is told: FAN_OPEN
 abbrev pub told_event : ℕ → AccessState → Event
-told_event flags access =
-    record { bits = 0x20; ondir = false; who = who_of flags access; perm = false; target = targets.Fd 3 access.object }
+told_event flags access = event_of open_bit false flags access
 
 -- the listener of a group, closed or not; groups are numbered from 1
 abbrev pub listener_at : List ListenerState → ℕ → Option ListenerState

@@ -8,8 +8,8 @@ use Rattle.fan_listener.specs.declared.queue.Put.TheVariants as puts
 use Rattle.fan_listener.specs.ListenerState.{ListenerState}
 use Rattle.fan_listener.specs.Queue.{put}
 use Rattle.fan_listener.specs.Responses.{answer_in, is_to}
-use Rattle.fan_world.specs.declared.step.StepOutcome.{StepOutcome}
-use Rattle.fan_world.specs.declared.step.StepOutcome.TheVariants as outcomes
+use Rattle.fan_script.specs.declared.reply.StepOutcome.{StepOutcome}
+use Rattle.fan_script.specs.declared.reply.StepOutcome.TheVariants as outcomes
 use Rattle.fan_world.specs.Accesses.{AccessState, asks, tells, asked_event, told_event, listener_at}
 
 -- the group is closed, or not there

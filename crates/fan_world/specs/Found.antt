@@ -1,12 +1,8 @@
--- What an access finds once, at its begin, from the marks that it keeps.
-use Rattle.std.specs.Prelude.{◌≡◌, ℕ, ◌<◌, List, Option, length}
+-- An ask that waits for its answer is one of those that are left.
+use Rattle.std.specs.Prelude.{ℕ, ◌<◌, List, Option, length}
 use Rattle.std.specs.Option.{ForSome}
 use Rattle.fan_world.specs.declared.access.WaitingFor.{WaitingFor}
-use Rattle.fan_world.specs.declared.marks.Mark.{Mark}
-use Rattle.fan_world.specs.Marks.{asked_groups, told_groups}
 
--- the groups to ask and to tell are those of the marks, and an ask that waits is not settled
-pub record IsSteady (to_ask to_tell : List ℕ) (marks : List Mark) (object settled : ℕ) (waiting : Option WaitingFor) : Type 0 where
-  pub asked : to_ask ≡ asked_groups marks object
-  pub told : to_tell ≡ told_groups marks object
-  pub unsettled : ForSome waiting (λ _. settled < length to_ask)
+-- an ask that waits is not settled
+abbrev pub IsUnsettled : List ℕ → ℕ → Option WaitingFor → Type 0
+IsUnsettled to_ask settled waiting = ForSome waiting (λ _. settled < length to_ask)

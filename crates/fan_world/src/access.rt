@@ -1,11 +1,15 @@
 // One access in progress.
 ghost use Rattle.std.specs.Prelude.{◌≡◌, ◌<◌, IfOk, IfSome, Some, slice_get, length};
+ghost use Rattle.fan_bits.specs.Marks.{IsMarkList};
+ghost use Rattle.fan_bits.specs.Places.{IsPlace};
+ghost use Rattle.fan_world.specs.Tree.{goes_through};
 ghost use Rattle.fan_world.specs.Accesses.{beginning, asks, tells, who_of, asked_event, told_event, settled_one, told_one};
 
-use super::marks::{Mark, groups_to_ask, groups_to_tell};
-use fan_bits::InitWords;
+use super::interests::groups_that_want;
+use fan_bits::{InitWords, Place};
 use fan_io::NoMemory;
 use fan_listener::{Event, Target};
+use fan_marks::MarkBook;
 use std::alloc::Global;
 use std::marker::Model;
 
@@ -37,9 +41,8 @@ pub struct WaitingFor {
 #[derive(Debug, Drop)]
 pub struct Access {
     opening: Opening,
-    object: u32,
-    // The marks as they stood at the begin; the groups to ask and to tell are found from them once.
-    marks: Vec<Mark>,
+    place: Place,
+    // The groups to ask and to tell, found at the begin by the marks as they stood then.
     to_ask: Vec<u32>,
     to_tell: Vec<u32>,
     settled: usize,
@@ -50,27 +53,24 @@ pub struct Access {
 impl Model for Access {
     ghost use Rattle.std.specs.Prelude.{◌≡◌};
     ghost use Rattle.fan_world.specs.Accesses.{AccessState};
-    ghost use Rattle.fan_world.specs.Marks.{asked_groups, told_groups};
-    ghost use Rattle.fan_world.specs.Found.{IsSteady};
+    ghost use Rattle.fan_world.specs.Found.{IsUnsettled};
 
     ghost Value = { AccessState };
 
     ghost view = { λ a. record {
       number = a.opening.number;
-      object = a.object;
+      place = a.place;
       pid = a.opening.pid;
       tid = a.opening.tid;
-      marks = a.marks.items;
+      to_ask = a.to_ask.items;
+      to_tell = a.to_tell.items;
       settled = a.settled;
       waiting = a.waiting;
       told = a.told;
     } };
 
-    ghost invariant = { λ a. IsSteady a.to_ask.items a.to_tell.items a.marks.items a.object a.settled a.waiting };
+    ghost invariant = { λ a. IsUnsettled a.to_ask.items a.settled a.waiting };
 }
-
-/// The mount at the root of the tree.
-const ROOT_MOUNT: u32 = 3;
 
 /// FAN_OPEN.
 const OPEN: u32 = 0x20;
@@ -79,25 +79,36 @@ const OPEN: u32 = 0x20;
 const OPEN_PERM: u32 = 0x10000;
 
 impl Access {
-    /// An access of an object that begins now, with the marks as they stand.
+    /// An access of a place that begins now, with the marks as they stand.
     pub(crate) fn begin(
         alloc: Global,
         opening: Opening,
-        object: u32,
-        marks: &[Mark],
+        place: Place,
+        marks: &mut MarkBook,
     ) -> Result<Access, NoMemory>
-        ensures { IfOk result (λ access. access ≡ beginning opening object marks.now) }
+        requires place { IsPlace place }
+        requires whole { IsMarkList marks.old.marks }
+        ensures ok { IfOk result (λ access. access ≡ beginning opening place marks.old.marks) }
+        ensures marks { marks.new.marks ≡ marks.old.marks }
     {
+        let to_ask = groups_that_want(alloc, marks, place, OPEN_PERM)?;
+        let to_tell = groups_that_want(alloc, marks, place, OPEN)?;
         Ok(Access {
             opening,
-            object,
-            marks: Vec::from_slice(alloc, marks)?,
-            to_ask: groups_to_ask(alloc, marks, object)?,
-            to_tell: groups_to_tell(alloc, marks, object)?,
+            place,
+            to_ask,
+            to_tell,
             settled: 0,
             waiting: None,
             told: 0,
         })
+    }
+
+    /// Whether it was begun through a mount.
+    pub(crate) fn goes_through(&self, mount: u32) -> bool
+        ensures { result ≡ goes_through mount self.now }
+    {
+        self.place.mount == mount
     }
 
     /// Its number.
@@ -148,7 +159,7 @@ impl Access {
     {
         Event {
             bits: OPEN_PERM,
-            ondir: false,
+            ondir: self.place.dir,
             who: self.who(flags),
             perm: true,
             target: self.target(),
@@ -161,7 +172,7 @@ impl Access {
     {
         Event {
             bits: OPEN,
-            ondir: false,
+            ondir: self.place.dir,
             who: self.who(flags),
             perm: false,
             target: self.target(),
@@ -169,11 +180,11 @@ impl Access {
     }
 
     fn target(&self) -> Target
-        ensures { result ≡ Target.Fd 3 self.now.object }
+        ensures { result ≡ Target.Fd self.now.place.mount self.now.place.inode }
     {
         Target::Fd {
-            mount: ROOT_MOUNT,
-            inode: self.object,
+            mount: self.place.mount,
+            inode: self.place.inode,
         }
     }
 

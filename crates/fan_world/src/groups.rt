@@ -4,13 +4,16 @@ ghost use Rattle.fan_listener.specs.Records.{read_of};
 ghost use Rattle.fan_listener.specs.Responses.{written};
 ghost use Rattle.fan_world.specs.Accesses.{listener_at, with_listener};
 ghost use Rattle.fan_world.specs.Bounds.{AreBounded};
-ghost use Rattle.fan_world.specs.World.{is_open, open_listener, if_open, grouped, read_from, read_answer, written_to, write_answer, closed_group, closed_at, read_errno, write_errno};
+ghost use Rattle.fan_bits.specs.Marks.{IsMarkList};
+ghost use Rattle.fan_world.specs.Marking.{open_listener, if_open};
+ghost use Rattle.fan_world.specs.World.{is_open, grouped, read_from, read_answer, written_to, write_answer, closed_group, closed_at, read_errno, write_errno};
 
-use super::marks::{Mark, drop_group};
-use super::step::Reply;
+use super::marking::drop_group;
 use fan_bits::{Errno, init_words};
 use fan_io::{Items, NoMemory};
 use fan_listener::{Listener, ReadRefused, WriteRefused};
+use fan_marks::MarkBook;
+use fan_script::Reply;
 use std::alloc::Global;
 
 /// How many groups may be open.
@@ -160,9 +163,11 @@ fn errno_of(refusal: WriteRefused) -> Errno
 
 /// Closes a group and drops its marks. Takes no memory.
 #[tactic(auto, unfolding(crate::specs::World::closed_group))]
-pub(crate) fn close_group(listeners: &mut Vec<Listener>, marks: &mut Vec<Mark>, group: u32) -> Reply
-    ensures { (result, listeners.new.items, marks.new.items)
-        ≡ closed_group listeners.old.items marks.old.items group }
+pub(crate) fn close_group(listeners: &mut Vec<Listener>, marks: &mut MarkBook, group: u32) -> Reply
+    requires { IsMarkList marks.old.marks }
+    ensures whole { IsMarkList marks.new.marks }
+    ensures done { (result, listeners.new.items, marks.new.marks)
+        ≡ closed_group listeners.old.items marks.old.marks group }
 {
     match place_of_open_group(listeners, group) {
         None => Reply::Refused(Errno::Ebadf),

@@ -1,26 +1,29 @@
 // Laws of the machine, which hold whatever steps came before. The bodies are empty.
-ghost use Rattle.std.specs.Prelude.{◌≡◌, ◌≤◌, ◌↔◌, ℕ, List, true, find};
-ghost use Rattle.fan_world.specs.declared.step.Step.{Step};
-ghost use Rattle.fan_world.specs.declared.step.StepOutcome.{StepOutcome};
+ghost use Rattle.std.specs.Prelude.{◌≡◌, ◌≤◌, ◌↔◌, ℕ, List, [], ◌∷◌, Option, Some, true, find};
+ghost use Rattle.fan_bits.specs.declared.place.Place.{Place};
+ghost use Rattle.fan_mounts.specs.Reaches.{Reaches};
+ghost use Rattle.fan_script.specs.declared.reply.StepOutcome.{StepOutcome};
+ghost use Rattle.fan_script.specs.declared.step.OpWord.{OpWord};
+ghost use Rattle.fan_script.specs.declared.step.Step.{Step};
 ghost use Rattle.fan_world.specs.AccessLaw.{GoesInOrder, outcomes_of, is_finished};
 ghost use Rattle.fan_world.specs.Accesses.{AccessState, has_number};
 ghost use Rattle.fan_world.specs.Causes.{IsDueTo};
-ghost use Rattle.fan_world.specs.Files.{object_at};
 ghost use Rattle.fan_world.specs.Run.{after_steps};
 ghost use Rattle.fan_world.specs.World.{WorldState, opening_world, next};
 
-use super::step::{Reply, Step};
 use fan_bits::Errno;
+use fan_script::{Reply, Step};
 
 /// An access that begins asks groups and then tells groups, by the marks as they stand at its
 /// begin and whatever comes after it. Their outcomes come in that order, up to the first denial,
 /// and to the last group where the access is finished.
 pub fn accesses_ask_then_tell()
-    ensures { (before after : List Step) (number pid tid object : ℕ) (path : List ℕ) →
+    ensures { (before after : List Step) (number pid tid : ℕ) (op : OpWord)
+        (path : List ℕ) (second : Option (List ℕ)) (place : Place) →
         let world = after_steps opening_world before in
-        let begun = next world (Step.Begin number pid tid path) in
-        begun.0 ≡ Reply.Done → object_at world.files path ≡ Some object →
-        GoesInOrder world.marks object (outcomes_of number begun.1 after)
+        let begun = next world (Step.Begin number pid tid op path second) in
+        begun.0 ≡ Reply.Done → Reaches world.tree world.mounts path place →
+        GoesInOrder world.marks place (outcomes_of number begun.1 after)
         (is_finished number (after_steps begun.1 after)) }
 {}
 
@@ -36,6 +39,6 @@ pub fn outcomes_have_causes()
     ensures { (before : List Step) (number : ℕ) (access : AccessState) (outcome : StepOutcome) →
         let world = after_steps opening_world before in
         find (has_number number) world.accesses ≡ Some access →
-        ((next world (Step.Advance number)).0 ≡ Reply.Out outcome)
+        ((next world (Step.Advance number)).0 ≡ Reply.Out (outcome ∷ []))
         ↔ IsDueTo world.listeners access outcome }
 {}

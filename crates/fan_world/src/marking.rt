@@ -1,84 +1,144 @@
-// `mark`: bits are added to the mark of a group on a file.
-ghost use Rattle.std.specs.Prelude.{◌≡◌, IfOk, OnOk, OnErr};
-ghost use Rattle.fan_world.specs.Marks.{mark_of};
-ghost use Rattle.fan_world.specs.World.{marked, added, added_at, is_bad_mask, is_notif, is_too_many};
+// `mark`: the marks of a group are changed; and marks that go with what they are on.
+ghost use Rattle.std.specs.Prelude.{◌≡◌, ◌≢◌, ◌≤◌, All, IfOk, OnErr, Some, slice_get};
+ghost use Rattle.fan_bits.specs.Marks.{IsMarkList, changed};
+ghost use Rattle.fan_bits.specs.Words.{class_of};
+ghost use Rattle.fan_bits.specs.Places.{IsObject, IsPlace};
+ghost use Rattle.fan_listener.specs.ListenerState.{ListenerState};
+ghost use Rattle.fan_world.specs.Marking.{mark_errno, marked, put_at, put_on_place};
+ghost use Rattle.fan_world.specs.Sound.{IsOpenAs, Stands, opens};
 
-use super::files::{File, find_object};
 use super::groups::place_of_open_group;
-use super::marks::{Mark, MarkMask, add_mark, count_marks, find_mark};
-use super::step::Reply;
-use fan_bits::{Class, Errno, InitWords};
+use fan_bits::{Change, Errno, Kind, MarkWords, Place, Verb, mark_words};
 use fan_io::NoMemory;
 use fan_listener::Listener;
-use std::alloc::Global;
+use fan_marks::{MarkBook, MarkRefused};
+use fan_mounts::Mounts;
+use fan_script::Reply;
+use fan_tree::Tree;
 
-/// How many marks a group has at most.
-const MOST_MARKS: usize = 8192;
-
-// Whether a mask has no bit, or a permission bit for a group that is never asked.
-fn is_bad(class: Class, mask: MarkMask) -> bool
-    ensures { result ≡ is_bad_mask class mask }
+/// Drops the marks of a group. Takes no memory.
+pub(crate) fn drop_group(marks: &mut MarkBook, group: u32)
+    ensures marks { marks.new.marks ≡ changed marks.old.marks (Change.DropGroup group) }
+    ensures whole { IsMarkList marks.new.marks }
 {
-    match class {
-        Class::Notif => mask.open_perm || !mask.opened,
-        _ => !mask.opened && !mask.open_perm,
+    let _ = marks.change(&Change::DropGroup { group }, true);
+}
+
+/// Drops the marks on an object. Takes no memory.
+pub(crate) fn drop_object(marks: &mut MarkBook, object: u32)
+    ensures marks { marks.new.marks ≡ changed marks.old.marks (Change.DropObject object) }
+    ensures whole { IsMarkList marks.new.marks }
+{
+    let _ = marks.change(&Change::DropObject { object }, true);
+}
+
+// Drops the marks of a group on objects of a kind. Takes no memory.
+fn flush(marks: &mut MarkBook, group: u32, kind: Kind)
+    ensures marks { marks.new.marks ≡ changed marks.old.marks (Change.Flush group kind) }
+    ensures whole { IsMarkList marks.new.marks }
+{
+    let _ = marks.change(&Change::Flush { group, kind }, true);
+}
+
+// Why a change of marks is refused; want of memory has no reply of its own.
+fn errno_of(refusal: MarkRefused) -> Errno
+    ensures { result ≡ mark_errno refusal }
+{
+    match refusal {
+        MarkRefused::NoMark => Errno::Enoent,
+        MarkRefused::Limit { .. } | MarkRefused::NoMemory => Errno::Enospc,
     }
 }
 
-// Whether a new mark is one too many.
-fn is_one_too_many(marks: &[Mark], mark: Mark, init: InitWords) -> bool
-    ensures { result
-        ≡ is_too_many (mark_of marks.now mark.group mark.object) marks.now mark.group init.bits }
-{
-    find_mark(marks, mark.group, mark.object).is_none()
-        && !init.unlimited_marks()
-        && count_marks(marks, mark.group) >= MOST_MARKS
-}
-
-// Adds bits to a mark, or makes it where it is not one too many.
-fn add(alloc: Global, marks: &mut Vec<Mark>, mark: Mark, init: InitWords) -> Result<Reply, NoMemory>
-    ensures ok { IfOk result (λ reply. (reply, marks.new.items)
-        ≡ added marks.old.items mark init.bits) }
-    ensures err { OnErr result (marks.new.items ≡ marks.old.items) }
-{
-    if is_one_too_many(marks, mark, init) {
-        return Ok(Reply::Refused(Errno::Enospc));
-    }
-    add_mark(alloc, marks, mark)?;
-    Ok(Reply::Done)
-}
-
-/// Adds bits to the mark of a group on the file at a path.
-#[tactic(auto, unfolding(crate::specs::World::marked))]
-pub(crate) fn mark_file(
-    alloc: Global,
-    listeners: &[Listener],
-    files: &[File],
-    marks: &mut Vec<Mark>,
+// Puts bits on the mark of a group on an object, or takes them from it.
+fn put(
+    marks: &mut MarkBook,
+    listener: &Listener,
     group: u32,
-    mask: MarkMask,
+    words: MarkWords,
+    object: u32,
+) -> Result<Reply, NoMemory>
+    requires group { 1 ≤ group }
+    requires object { IsObject object }
+    requires verb { words.verb ≢ Verb.Flush }
+    requires class { All (λ mark. mark.group ≡ group → mark.class ≡ class_of listener.now.flags)
+        marks.old.marks }
+    ensures ok { IfOk result (λ reply. (reply, marks.new.marks)
+        ≡ put_at marks.old.marks listener.now group words object) }
+    ensures whole { IsMarkList marks.new.marks }
+    ensures err { OnErr result (marks.new.marks ≡ marks.old.marks) }
+{
+    let init = listener.init();
+    let change = Change::Put {
+        group,
+        class: init.class(),
+        words,
+        object,
+    };
+    match marks.change(&change, init.unlimited_marks()) {
+        Ok(_) => Ok(Reply::Done),
+        Err(MarkRefused::NoMemory) => Err(NoMemory),
+        Err(refusal) => Ok(Reply::Refused(errno_of(refusal))),
+    }
+}
+
+// The same on the object of a place; ENOTDIR where a directory is wanted.
+fn put_on(
+    marks: &mut MarkBook,
+    listener: &Listener,
+    group: u32,
+    words: MarkWords,
+    place: Place,
+) -> Result<Reply, NoMemory>
+    requires whole { IsMarkList marks.old.marks }
+    requires group { 1 ≤ group }
+    requires place { IsPlace place }
+    requires verb { words.verb ≢ Verb.Flush }
+    requires class { All (λ mark. mark.group ≡ group → mark.class ≡ class_of listener.now.flags)
+        marks.old.marks }
+    ensures ok { IfOk result (λ reply. (reply, marks.new.marks)
+        ≡ put_on_place (Ok place) marks.old.marks listener.now group words) }
+    ensures whole { IsMarkList marks.new.marks }
+    ensures err { OnErr result (marks.new.marks ≡ marks.old.marks) }
+{
+    if words.only_dir && !place.dir {
+        return Ok(Reply::Refused(Errno::Enotdir));
+    }
+    put(marks, listener, group, words, place.object(words.kind))
+}
+
+/// Changes the marks of a group: EBADF, EINVAL, the walk, ENOTDIR, ENOENT, ENOSPC.
+#[tactic(auto, unfolding(crate::specs::Marking::marked))]
+pub(crate) fn mark(
+    listeners: &[Listener],
+    tree: &Tree,
+    mounts: &Mounts,
+    marks: &mut MarkBook,
+    group: u32,
+    flags: u32,
+    mask: u64,
     path: &[u8],
 ) -> Result<Reply, NoMemory>
-    ensures ok { IfOk result (λ reply. (reply, marks.new.items)
-        ≡ marked listeners.now files.now marks.old.items group mask path.now) }
-    ensures err { OnErr result (marks.new.items ≡ marks.old.items) }
+    requires classes { All (Stands (opens listeners.now)) marks.old.marks }
+    requires whole { IsMarkList marks.old.marks }
+    ensures ok { IfOk result (λ reply. (reply, marks.new.marks)
+        ≡ marked listeners.now tree.now mounts.now marks.old.marks group flags mask path.now) }
+    ensures whole { IsMarkList marks.new.marks }
+    ensures err { OnErr result (marks.new.marks ≡ marks.old.marks) }
 {
     let Some(place) = place_of_open_group(listeners, group) else {
         return Ok(Reply::Refused(Errno::Ebadf));
     };
-    let init = listeners[place].init();
-    let class = init.class();
-    if is_bad(class, mask) {
+    let listener = &listeners[place];
+    let Ok(words) = mark_words(flags, mask, listener.init()) else {
         return Ok(Reply::Refused(Errno::Einval));
+    };
+    if words.verb == Verb::Flush {
+        flush(marks, group, words.kind);
+        return Ok(Reply::Done);
     }
-    let Some(object) = find_object(files, path) else {
-        return Ok(Reply::Refused(Errno::Enoent));
-    };
-    let mark = Mark {
-        group,
-        class,
-        object,
-        mask,
-    };
-    add(alloc, marks, mark, init)
+    match mounts.place(tree, path) {
+        Err(refusal) => Ok(Reply::Refused(refusal)),
+        Ok(place) => put_on(marks, listener, group, words, place),
+    }
 }

@@ -1,6 +1,6 @@
 // The law of `run`, which holds whatever steps came before. The body is empty.
 ghost use Rattle.std.specs.Prelude.{ℕ, List, find};
-ghost use Rattle.fan_world.specs.declared.step.Step.{Step};
+ghost use Rattle.fan_script.specs.declared.step.Step.{Step};
 ghost use Rattle.fan_world.specs.Accesses.{has_number};
 ghost use Rattle.fan_world.specs.Run.{IsWholeRun, ran, most_answers, after_steps};
 ghost use Rattle.fan_world.specs.World.{opening_world};

@@ -5,9 +5,9 @@ ghost use Rattle.fan_world.specs.Bounds.{AreBounded};
 
 use super::access::{Access, WaitingFor};
 use super::groups::place_of_group;
-use super::step::StepOutcome;
 use fan_io::NoMemory;
 use fan_listener::{Answer, Listener, Put};
+use fan_script::StepOutcome;
 
 /// Does the single step of an access. Nothing changes where memory runs out.
 #[tactic(auto, unfolding(crate::specs::Accesses::access_step))]

@@ -4,13 +4,16 @@ ghost use Rattle.fan_world.specs.World.{next, opening_world};
 
 use super::access::{Access, Opening};
 use super::accesses::{advance, begin};
-use super::files::{File, make_file};
 use super::groups::{close_group, make_group, read_group, write_group};
-use super::marking::mark_file;
-use super::marks::Mark;
-use super::step::{Reply, Step};
+use super::marking::mark;
+use super::tree_steps::{make_entry, make_fs, mount, umount};
+use fan_bits::Errno;
 use fan_io::NoMemory;
 use fan_listener::Listener;
+use fan_marks::MarkBook;
+use fan_mounts::Mounts;
+use fan_script::{Reply, Step};
+use fan_tree::Tree;
 use std::alloc::Global;
 use std::marker::Model;
 
@@ -18,55 +21,58 @@ use std::marker::Model;
 #[derive(Drop)]
 pub struct World {
     alloc: Global,
-    files: Vec<File>,
-    next_object: u32,
+    tree: Tree,
+    mounts: Mounts,
     listeners: Vec<Listener>,
-    marks: Vec<Mark>,
+    marks: MarkBook,
     accesses: Vec<Access>,
     last_access: u32,
     steps: u32,
 }
 
 impl Model for World {
-    ghost use Rattle.std.specs.Prelude.{◌+◌, ◌≤◌, length};
+    ghost use Rattle.fan_world.specs.Bounds.{IsKept};
     ghost use Rattle.fan_world.specs.World.{MachineState};
-    ghost use Rattle.fan_world.specs.Bounds.{AreBounded};
 
     ghost Value = { MachineState };
 
     ghost view = { λ w. record {
       state = record {
-        files = w.files.items;
-        next_object = w.next_object;
+        tree = w.tree;
+        mounts = w.mounts;
         listeners = w.listeners.items;
-        marks = w.marks.items;
+        marks = w.marks.marks;
         accesses = w.accesses.items;
         last_access = w.last_access;
       };
       steps = w.steps;
     } };
 
-    ghost invariant = { λ w. record {
-      listeners : AreBounded w.steps w.listeners.items;
-      objects : w.next_object ≤ 65536;
-    } };
+    ghost invariant = { λ w. IsKept w.steps (record {
+      tree = w.tree;
+      mounts = w.mounts;
+      listeners = w.listeners.items;
+      marks = w.marks.marks;
+      accesses = w.accesses.items;
+      last_access = w.last_access;
+    }) };
 }
 
 impl World {
-    /// The machine at the start: no file and no group.
-    pub fn new(alloc: Global) -> World
-        ensures { result ≡ record { state = opening_world; steps = 0 } }
+    /// The machine at the start: a filesystem with its root, mounted at `/`, and no group.
+    pub fn new(alloc: Global) -> Result<World, NoMemory>
+        ensures { IfOk result (λ world. world ≡ record { state = opening_world; steps = 0 }) }
     {
-        World {
+        Ok(World {
             alloc,
-            files: Vec::new(alloc),
-            next_object: 4,
+            tree: Tree::new(alloc)?,
+            mounts: Mounts::new(alloc)?,
             listeners: Vec::new(alloc),
-            marks: Vec::new(alloc),
+            marks: MarkBook::new(alloc)?,
             accesses: Vec::new(alloc),
             last_access: 0,
             steps: 0,
-        }
+        })
     }
 
     /// How many steps were made, want of memory left out.
@@ -85,19 +91,37 @@ impl World {
         ensures err { OnErr result (self.new ≡ self.old) }
     {
         let reply = match step {
-            Step::MkFile { path } => make_file(
-                self.alloc,
-                &mut self.files,
-                &mut self.next_object,
+            Step::MkFile { path } => {
+                make_entry(&mut self.tree, &self.mounts, path.as_slice(), false)?
+            }
+            Step::MkDir { path } => {
+                make_entry(&mut self.tree, &self.mounts, path.as_slice(), true)?
+            }
+            Step::MkFs => make_fs(&mut self.tree)?,
+            Step::Mount { fs, path } => {
+                mount(&mut self.tree, &mut self.mounts, *fs, path.as_slice())?
+            }
+            Step::Umount { path } => umount(
+                &self.tree,
+                &mut self.mounts,
+                &mut self.marks,
+                &self.accesses,
                 path.as_slice(),
-            )?,
+            ),
+            Step::Limit { .. } | Step::Grace => Reply::Refused(Errno::Einval),
             Step::Init { flags } => make_group(self.alloc, &mut self.listeners, *flags)?,
-            Step::Mark { group, mask, path } => mark_file(
-                self.alloc,
+            Step::Mark {
+                group,
+                flags,
+                mask,
+                path,
+            } => mark(
                 &self.listeners,
-                &self.files,
+                &self.tree,
+                &self.mounts,
                 &mut self.marks,
                 *group,
+                *flags,
                 *mask,
                 path.as_slice(),
             )?,
@@ -105,17 +129,26 @@ impl World {
                 access,
                 pid,
                 tid,
+                op,
                 path,
+                second: _,
             } => begin(
                 self.alloc,
-                &self.files,
-                &self.marks,
+                &self.tree,
+                &self.mounts,
+                &mut self.marks,
                 &mut self.accesses,
                 &mut self.last_access,
                 Opening::new(*access, *pid, *tid),
+                *op,
                 path.as_slice(),
             )?,
-            Step::Advance { access } => advance(&mut self.listeners, &mut self.accesses, *access)?,
+            Step::Advance { access } => advance(
+                self.alloc,
+                &mut self.listeners,
+                &mut self.accesses,
+                *access,
+            )?,
             Step::Read { group, size } => read_group(&mut self.listeners, *group, *size)?,
             Step::Write { group, bytes } => {
                 write_group(&mut self.listeners, *group, bytes.as_slice())

@@ -1,5 +1,5 @@
 use Rattle.std.proofs.Common.{◌≡◌, false, rules, lit<}
-use Rattle.fan_world.specs.declared.step.Step.TheVariants as steps
+use Rattle.fan_script.specs.declared.step.Step.TheVariants as steps
 use Rattle.fan_world.specs.Run.{ends_run, most_answers}
 use Rattle.fan_world.specs.World.{next}
 use Rattle.fan_shell.proofs.RunLemmas.{state_goes_on}

@@ -7,7 +7,7 @@ use Rattle.fan_shell.proofs.PlayLemmas.{leads_start, leads_more, leads_bad, lead
 use Rattle.fan_shell.proofs.script.write_transcript.Goals as goal
 
 pub loop-rest-init : goal.loop-rest-init
-loop-rest-init g c = rw c.new-world.ensures (record {
+loop-rest-init g c = rw c.in-Ok.ensures (record {
   put = ([], Appends-nil _, leads_start c.args.script.now);
   steps = omega arith;
   numbers = omega arith;
@@ -25,7 +25,7 @@ pub returns-then-not-good-clause-told : goal.returns-then-not-good-clause-told
 returns-then-not-good-clause-told g c = λ _.
     let put = c.loop-rest.invariant.put in
     let said : c.deref.result.now ≡ (turn c.loop-rest.world.state c.loop-rest.number c.split_line.result.0.now).0 = search rules in
-    let none : (turn c.loop-rest.world.state c.loop-rest.number c.split_line.result.0.now).1 ≡ None = rw c.if-not-good.true at c.in-Ok.ensures.start in
+    let none : (turn c.loop-rest.world.state c.loop-rest.number c.split_line.result.0.now).1 ≡ None = rw c.if-not-good.true at c.in-Ok-answer_line.ensures.start in
     rw (leads_bad c.args.script.now put.0 c.loop-rest.rest.now c.split_line.result.0.now c.split_line.result.1.now _ _ put.2 c.split_line.ensures.lines c.deref.result.now said none)
     (Appends-trans _ _ _ put.0 c.deref.result.now put.1 c.in-Ok-put_all.ensures.whole)
 
@@ -38,15 +38,15 @@ pub loop-rest-preserved : goal.loop-rest-preserved
 loop-rest-preserved g c =
     let put = c.loop-rest.invariant.put in
     let said : c.deref.result.now ≡ (turn c.loop-rest.world.state c.loop-rest.number c.split_line.result.0.now).0 = search rules in
-    let start : (turn c.loop-rest.world.state c.loop-rest.number c.split_line.result.0.now).1 ≡ Some c.answer_line.new.world.state = rw c.if-not-good.false at c.in-Ok.ensures.start in
-    let long : 5 ≤ length c.split_line.result.0.now = c.in-Ok.ensures.long c.if-not-good.false in
+    let start : (turn c.loop-rest.world.state c.loop-rest.number c.split_line.result.0.now).1 ≡ Some c.answer_line.new.world.state = rw c.if-not-good.false at c.in-Ok-answer_line.ensures.start in
+    let long : 4 ≤ length c.split_line.result.0.now = c.in-Ok-answer_line.ensures.long c.if-not-good.false in
     record {
       put = (
         put.0 ++ c.deref.result.now,
         Appends-trans _ _ _ put.0 c.deref.result.now put.1 c.in-Ok-put_all.ensures.whole,
         leads_more c.args.script.now put.0 c.loop-rest.rest.now c.split_line.result.0.now c.split_line.result.1.now _ _ put.2 c.split_line.ensures.lines c.deref.result.now _ said start,
       );
-      steps = omega (arith, long, c.in-Ok.ensures.steps);
+      steps = omega (arith, long, c.in-Ok-answer_line.ensures.steps);
       numbers = omega (arith, c.split_line.ensures.shorter);
       later = omega (arith, c.in-Ok-put_all.ensures.cause.kept);
     }

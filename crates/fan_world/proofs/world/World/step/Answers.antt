@@ -1,24 +1,24 @@
-use Rattle.std.proofs.Common.{List, ap}
-use Rattle.fan_listener.specs.ListenerState.{ListenerState}
-use Rattle.fan_world.specs.declared.marks.Mark.{Mark}
-use Rattle.fan_world.specs.declared.step.Reply.{Reply}
-use Rattle.fan_world.specs.Accesses.{AccessState}
-use Rattle.fan_world.proofs.Bounded.{bounded_later, bounded_group, bounded_advance, bounded_read, bounded_write, bounded_close}
+use Rattle.fan_world.proofs.Kept.{kept_tree, kept_umount, kept_init, kept_mark, kept_begin, kept_advance, kept_read, kept_write, kept_close}
 use Rattle.fan_world.proofs.world.World.step.Goals as goal
-use Rattle.fan_world.proofs.world.World.step.Goals.{in-MkFile+in_ok-reply-in-MkFile, in-Init+in_ok-reply-in-Init, in-Mark+in_ok-reply-in-Mark, in-Begin+in_ok-reply-in-Begin, in-Advance+in_ok-reply-in-Advance, in-Read+in_ok-reply-in-Read, in-Write, in-Close}
+use Rattle.fan_world.proofs.world.World.step.Goals.{in-MkFile+in_ok-reply-in-MkFile, in-MkDir+in_ok-reply-in-MkDir, in-MkFs+in_ok-reply-in-MkFs, in-Mount+in_ok-reply-in-Mount, in-Umount, in-Init+in_ok-reply-in-Init, in-Mark+in_ok-reply-in-Mark, in-Begin+in_ok-reply-in-Begin, in-Advance+in_ok-reply-in-Advance, in-Read+in_ok-reply-in-Read, in-Write, in-Close, in-Limit}
 
+-- each step keeps what holds of the machine, by the clause of its handler
 pub invariant_of-self-2 : goal.invariant_of-self-2
 invariant_of-self-2 c =
-    let bounded = c.self.invariant.listeners in
-    let objects = c.self.invariant.objects in
-    let later = bounded_later _ _ bounded in
+    let count = c.self.inside.steps in
+    let kept = c.self.invariant in
     elim c.match-step.branch [
-      | in-MkFile+in_ok-reply-in-MkFile w ↦ rw w.self-inside-is (record { listeners = later; objects = w.in_ok-reply-in-MkFile.ensures.objects })
-      | in-Init+in_ok-reply-in-Init w ↦ rw (w.self-inside-is, ap (λ (r : Reply × List ListenerState). r.1) w.in_ok-reply-in-Init.ensures.ok) (record { listeners = bounded_group _ _ _ bounded; objects = objects })
-      | in-Mark+in_ok-reply-in-Mark w ↦ rw w.self-inside-is (record { listeners = later; objects = objects })
-      | in-Begin+in_ok-reply-in-Begin w ↦ rw w.self-inside-is (record { listeners = later; objects = objects })
-      | in-Advance+in_ok-reply-in-Advance w ↦ rw (w.self-inside-is, ap (λ (r : Reply × List ListenerState × List AccessState). r.1) w.in_ok-reply-in-Advance.ensures.ok) (record { listeners = bounded_advance _ _ _ _ bounded; objects = objects })
-      | in-Read+in_ok-reply-in-Read w ↦ rw (w.self-inside-is, ap (λ (r : Reply × List ListenerState). r.1) w.in_ok-reply-in-Read.ensures.ok) (record { listeners = bounded_read _ _ _ _ bounded; objects = objects })
-      | in-Write w ↦ rw (w.self-inside-is, ap (λ (r : Reply × List ListenerState). r.1) w.write_group-reply.ensures) (record { listeners = bounded_write _ _ _ _ bounded; objects = objects })
-      | in-Close w ↦ rw (w.self-inside-is, ap (λ (r : Reply × List ListenerState × List Mark). r.1) w.close_group-reply.ensures) (record { listeners = bounded_close _ _ _ _ bounded; objects = objects })
+      | in-MkFile+in_ok-reply-in-MkFile w ↦ rw w.self-inside-is (kept_tree count _ kept _ _)
+      | in-MkDir+in_ok-reply-in-MkDir w ↦ rw w.self-inside-is (kept_tree count _ kept _ _)
+      | in-MkFs+in_ok-reply-in-MkFs w ↦ rw w.self-inside-is (kept_tree count _ kept _ _)
+      | in-Mount+in_ok-reply-in-Mount w ↦ rw w.self-inside-is (kept_tree count _ kept _ _)
+      | in-Umount w ↦ rw w.self-inside-is (kept_umount count _ kept _ _ _ _ (rw w.deref.ensures.value at w.umount-reply.ensures.done) w.umount-reply.ensures.whole)
+      | in-Init+in_ok-reply-in-Init w ↦ rw w.self-inside-is (kept_init count _ kept _ _ _ w.in_ok-reply-in-Init.ensures.ok)
+      | in-Mark+in_ok-reply-in-Mark w ↦ rw w.self-inside-is (kept_mark count _ kept _ _ _ _ _ _ (rw w.deref-in-Mark.ensures.value at w.in_ok-reply-in-Mark.ensures.ok) w.in_ok-reply-in-Mark.ensures.whole)
+      | in-Begin+in_ok-reply-in-Begin w ↦ rw (w.self-inside-is, w.in_ok-reply-in-Begin.ensures.marks) (kept_begin count _ kept _ _ _ _ _ _ w.in_ok-reply-in-Begin.ensures.ok)
+      | in-Advance+in_ok-reply-in-Advance w ↦ rw w.self-inside-is (kept_advance count _ kept _ _ _ _ w.in_ok-reply-in-Advance.ensures.ok)
+      | in-Read+in_ok-reply-in-Read w ↦ rw w.self-inside-is (kept_read count _ kept _ _ _ _ w.in_ok-reply-in-Read.ensures.ok)
+      | in-Write w ↦ rw w.self-inside-is (kept_write count _ kept _ _ _ _ w.write_group-reply.ensures)
+      | in-Close w ↦ rw w.self-inside-is (kept_close count _ kept _ _ _ _ w.close_group-reply.ensures.done w.close_group-reply.ensures.whole)
+      | in-Limit w ↦ rw w.self-inside-is (kept_tree count _ kept _ _)
     ]
