@@ -2,6 +2,7 @@
 -- and what a change makes of it: fanotify_mark(2).
 use Rattle.std.specs.Prelude.{◌≡◌, ◌≢◌, ℕ, ◌+◌, ◌*◌, ◌<◌, ◌≤◌, ◌^◌, ◌==◌, ◌&&◌, ◌||◌, Bool, true, false, not, List, [], ◌∷◌, ◌++◌, Option, Some, None, All, filter, find, map, count_by, nat_lt, if◌then◌else◌}
 use Rattle.std.specs.Int.RustNames.{bit_and, bit_or, bit_xor}
+use Rattle.std.specs.List.{list_any}
 use Rattle.fan_bits.specs.declared.change.Change.{Change}
 use Rattle.fan_bits.specs.declared.change.Change.TheVariants.{Put, Flush, Clear, DropGroup, DropObject}
 use Rattle.fan_bits.specs.declared.class.Class.{Class}
@@ -103,7 +104,8 @@ unfoldable pub put_mark : Option Mark → ℕ → Class → MarkWords → ℕ �
 put_mark old group class words object =
     standing (put_on words.verb words (or_blank old group class words.kind object))
 
--- a change that names no mark of its own leaves a mark as it is
+-- the mark of a group on an object after a Put; what other changes do to marks is said by `changed`, and
+-- they leave it here as it is
 unfoldable pub updated : Option Mark → Change → Option Mark
 updated old (Put group class words object) = put_mark old group class words object
 updated old (Flush group kind) = old
@@ -144,6 +146,35 @@ changed marks (Flush group kind) = filter (λ mark. not (mark.group == group && 
 changed marks (Clear object) = filter stands (map (cleared object) marks)
 changed marks (DropGroup group) = filter (λ mark. not (mark.group == group)) marks
 changed marks (DropObject object) = filter (λ mark. not (mark.object == object)) marks
+
+-- the two answers are the same
+abbrev pub same_flag : Bool → Bool → Bool
+same_flag true other = other
+same_flag false other = not other
+
+-- the two marks are the same, field by field
+unfoldable pub same_mark : Mark → Mark → Bool
+same_mark mark other =
+    mark.group == other.group
+    && rank_of mark.class == rank_of other.class
+    && mark.object == other.object
+    && same_kind mark.kind other.kind
+    && mark.mask == other.mask
+    && mark.ignored == other.ignored
+    && same_flag mark.survives other.survives
+
+-- the marks that a change removes, or replaces by different ones
+unfoldable pub retired : List Mark → Change → List Mark
+retired marks change = filter (λ mark. not (list_any (same_mark mark) (changed marks change))) marks
+
+-- the marks after some changes of a list
+abbrev pub changed_by_all : List Mark → List Change → List Mark
+changed_by_all marks [] = marks
+changed_by_all marks (change ∷ more) = changed_by_all (changed marks change) more
+
+-- the marks after a history of changes, from none on
+abbrev pub marks_after : List Change → List Mark
+marks_after changes = changed_by_all [] changes
 
 -- its numbers and bits are in their ranges, and it stands
 pub record IsMark (mark : Mark) : Type 0 where
