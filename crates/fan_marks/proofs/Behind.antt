@@ -1,12 +1,14 @@
 -- The first mark on an object behind an order is the first of all that stand behind that place.
-use Rattle.std.proofs.Common.{◌≡◌, ◌∙◌, ℕ, ◌≤◌, List, [], ◌∷◌, Bool, true, false, cond, length, Some, None, sym, refl, ap, arith, zero, suc}
+use Rattle.std.proofs.Common.{◌≡◌, ◌∙◌, ℕ, List, [], ◌∷◌, Bool, true, false, cond, length, Some, None, sym, refl, ap, arith}
 use Rattle.std.specs.Prelude.{All, filter, find, not, slice_get, ◌&&◌, ◌==◌, nat_lt}
-use Rattle.std.specs.List.Sorted.{IsPartitionedBy, IsPartitionPoint}
+use Rattle.std.specs.List.Sorted.{IsPartitionedBy}
 use Rattle.std.proofs.lemmas.Bool.Decides.{nat_tests}
 use Rattle.std.proofs.lemmas.List.Elements.{All-head, All-tail, All-weaker}
 use Rattle.fan_bits.specs.declared.mark.Mark.{Mark}
 use Rattle.fan_bits.specs.Marks.{Rises, is_behind, next_on, on, order_of}
 use Rattle.fan_marks.specs.Made.{if_on}
+use Rattle.fan_marks.proofs.Cutting.{behind_fail, parted_right}
+use Rattle.fan_marks.proofs.Parts.{filter_none}
 use Rattle.fan_marks.proofs.Places.{rises_parted_by}
 use Rattle.fan_marks.proofs.Rising.{IsBefore}
 
@@ -16,7 +18,7 @@ on_behind : (object after : ℕ) (mark : Mark) → is_behind object after mark �
 on_behind object after mark fails = grind (arith, nat_tests)
 
 -- a search on an object is one among all
-find_on : (object after : ℕ) (marks : List Mark)
+pub find_on : (object after : ℕ) (marks : List Mark)
     → next_on marks object after ≡ find (λ mark. mark.object == object && nat_lt after (order_of mark)) marks
 find_on object after [] = refl
 find_on object after (x ∷ xs) =
@@ -81,32 +83,25 @@ pub rises_ended : (object after : ℕ) (marks : List Mark) → Rises marks
 rises_ended object after =
     rises_parted_by (λ mark. not (is_behind object after mark)) (not_behind_too object after)
 
-passes : (a : Bool) → not a ≡ false → a ≡ true
-passes true is = refl
-passes false is = absurd cc
-
-fails : (a : Bool) → not a ≡ true → a ≡ false
-fails true is = absurd cc
-fails false is = refl
-
--- the first mark that passes is where a test turns
-first_passing : (p : Mark → Bool) (marks : List Mark) (at : ℕ) → at ≤ length marks
-    → IsPartitionPoint (λ mark. not (p mark) ≡ true) (λ mark. not (p mark) ≡ false) marks at
-    → slice_get marks at ≡ slice_get (filter p marks) 0
-first_passing p [] zero within point = refl
-first_passing p [] (suc at) within point = refl
-first_passing p (x ∷ xs) zero within point = rw (passes (p x) (point.1 0 x (omega arith) (omega arith))) refl
-first_passing p (x ∷ xs) (suc at) within point =
-    rw (fails (p x) (point.0 0 x (omega arith) (omega arith))) (first_passing p xs at (omega arith) (
-      (λ k d low high. point.0 (suc k) d (omega arith) (omega arith)),
-      (λ k d low high. point.1 (suc k) d (omega arith) (omega arith)),
-    ))
+slot_behind : (p : Mark → Bool) (marks : List Mark) → IsPartitionedBy (λ mark. not (p mark)) marks
+    → slice_get marks (length (filter (λ mark. not (p mark)) marks)) ≡ slice_get (filter p marks) 0
+slot_behind p [] parted = refl
+slot_behind p (x ∷ xs) parted =
+    elim (p x) as (λ test. p x ≡ test
+    → slice_get (x ∷ xs) (length (cond (not test) (x ∷ filter (λ mark. not (p mark)) xs)
+    (filter (λ mark. not (p mark)) xs))) ≡ slice_get (cond test (x ∷ filter p xs) (filter p xs)) 0) [
+      | true ↦ λ is.
+          let none : filter (λ mark. not (p mark)) xs ≡ [] =
+          filter_none (λ mark. not (p mark)) xs
+          (behind_fail (λ mark. not (p mark)) [] x xs parted (rw is refl)) in
+          rw none refl
+      | false ↦ λ fails. slot_behind p xs (parted_right (λ mark. not (p mark)) [] x xs parted)
+    ] refl
 
 -- what stands where the marks that aren't behind a place end
-pub behind_at : (object after : ℕ) (marks : List Mark) (at : ℕ) → Rises marks → at ≤ length marks
-    → IsPartitionPoint (λ mark. not (is_behind object after mark) ≡ true)
-    (λ mark. not (is_behind object after mark) ≡ false) marks at
-    → if_on object (slice_get marks at) ≡ next_on marks object after
-behind_at object after marks at rises within point =
-    ap (if_on object) (first_passing (is_behind object after) marks at within point)
+pub behind_at : (object after : ℕ) (marks : List Mark) → Rises marks
+    → if_on object (slice_get marks (length (filter (λ mark. not (is_behind object after mark)) marks)))
+    ≡ next_on marks object after
+behind_at object after marks rises =
+    ap (if_on object) (slot_behind (is_behind object after) marks (rises_ended object after marks rises))
     ∙ first_behind object after marks rises ∙ sym (find_on object after marks)

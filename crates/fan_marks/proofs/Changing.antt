@@ -41,7 +41,7 @@ agree_new : (mark other : Mark) (group : ℕ) (class : Class) (object : ℕ)
 agree_new mark other group class object agree is same = agree (same ∙ is.0.group_is) ∙ sym is.0.class_is
 
 -- the marks around a place, with one of a group and a class there, are a list of marks
-IsMarkList-placed : (marks : List Mark) (group : ℕ) (class : Class) (object : ℕ) (new : Option Mark)
+pub IsMarkList-placed : (marks : List Mark) (group : ℕ) (class : Class) (object : ℕ) (new : Option Mark)
     → (1 ≤ group) × (group < 2 ^ 32) → IsObject object
     → All (λ mark. mark.group ≡ group → mark.class ≡ class) marks
     → IfSome new (IsNew group class object) → IsMarkList marks

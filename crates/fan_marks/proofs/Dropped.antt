@@ -11,7 +11,7 @@ use Rattle.std.proofs.lemmas.Map.Views.{any-filter_same}
 use Rattle.fan_bits.specs.declared.change.Change.{Change}
 use Rattle.fan_bits.specs.declared.mark.Mark.{Mark}
 use Rattle.fan_bits.specs.Marks.{changed}
-use Rattle.fan_marks.specs.Book.{retired, same_mark}
+use Rattle.fan_bits.specs.Marks.{retired, same_mark}
 use Rattle.fan_marks.specs.Made.{IsMade}
 use Rattle.fan_marks.proofs.Same.{same_mark_one, same_mark_self}
 

@@ -9,7 +9,7 @@ use Rattle.std.proofs.lemmas.List.Sums.{length-filter}
 use Rattle.fan_bits.specs.declared.change.Change.TheVariants.{Clear}
 use Rattle.fan_bits.specs.declared.mark.Mark.{Mark}
 use Rattle.fan_bits.specs.Marks.{IsMarkList, Rises, changed, cleared, order_of, stands}
-use Rattle.fan_marks.specs.Book.{retired, same_mark}
+use Rattle.fan_bits.specs.Marks.{retired, same_mark}
 use Rattle.fan_marks.specs.Made.{IsMade, forgets}
 use Rattle.fan_marks.proofs.Dropped.{above_zero, any_same_filter, any_same_here, filter_agree_on, filter_from_length}
 use Rattle.fan_marks.proofs.Listed.{cleared_place}
@@ -21,7 +21,7 @@ unequal : (object order : ℕ) → (nat_lt object object || (object == object &&
 unequal object order test = grind (arith, nat_tests)
 
 -- two marks in different places are different ones
-apart : (x y : Mark) → IsBefore x y → IsAt y.object (order_of y) x → ⊥
+pub apart : (x y : Mark) → IsBefore x y → IsAt y.object (order_of y) x → ⊥
 apart x y before here = unequal y.object (order_of y) (rw (here.0, here.1) at before)
 
 other_earlier : (f : Mark → Mark) (x y : Mark) → IsAt y.object (order_of y) (f y) → IsBefore x y
@@ -33,7 +33,7 @@ other_earlier f x y keeps before =
       | false ↦ λ differs. refl
     ] refl
 
-apart_later : (x y : Mark) → IsBefore x y → IsAt x.object (order_of x) y → ⊥
+pub apart_later : (x y : Mark) → IsBefore x y → IsAt x.object (order_of x) y → ⊥
 apart_later x y before here = unequal x.object (order_of x) (rw (here.0, here.1) at before)
 
 other_later : (f : Mark → Mark) (x y : Mark) → IsAt x.object (order_of x) (f x) → IsBefore x y
@@ -145,7 +145,7 @@ nothing_gone marks all same =
     not_true_is (list_any (same_mark mark) all) (rw same (any_same_here marks k d within))))
 
 -- no mark forgets: then nothing changes
-none_forgets : (object : ℕ) (marks : List Mark) → IsMarkList marks
+pub none_forgets : (object : ℕ) (marks : List Mark) → IsMarkList marks
     → length (filter (forgets object) marks) ≡ 0
     → filter stands (map (cleared object) marks) ≡ marks
 none_forgets object marks list none =

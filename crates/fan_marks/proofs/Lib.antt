@@ -1,5 +1,6 @@
 pub mod Behind
 pub mod Changing
+pub mod Cutting
 pub mod Dropped
 pub mod Forgotten
 pub mod Listed
@@ -8,3 +9,11 @@ pub mod Places
 pub mod Putting
 pub mod Rising
 pub mod Same
+pub mod Splicing
+pub mod Counting
+pub mod Ordering
+pub mod Found
+pub mod Indexed
+pub mod Together
+pub mod Steps
+pub mod Clearing

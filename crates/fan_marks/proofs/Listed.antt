@@ -25,7 +25,7 @@ IsMarkList-filter p marks list = record {
 }
 
 -- a written file's mark keeps group, class, object and kind, and its numbers stay in their ranges
-cleared_keeps : (object : ℕ) (mark : Mark)
+pub cleared_keeps : (object : ℕ) (mark : Mark)
     → ((cleared object mark).group ≡ mark.group) × ((cleared object mark).class ≡ mark.class) ×
     ((cleared object mark).object ≡ mark.object)
 cleared_keeps object mark =

@@ -11,7 +11,7 @@ use Rattle.fan_bits.specs.declared.class.Class.{Class}
 use Rattle.fan_bits.specs.declared.mark.Mark.{Mark}
 use Rattle.fan_bits.specs.Marks.{IsMark, Rises, changed, is_before, is_behind, listed, mark_of, order_number}
 use Rattle.fan_bits.specs.Words.{rank_of}
-use Rattle.fan_marks.specs.Book.{retired, same_mark}
+use Rattle.fan_bits.specs.Marks.{retired, same_mark}
 use Rattle.fan_marks.specs.Made.{IsMade, is_at, is_other, is_retired}
 use Rattle.fan_marks.proofs.Dropped.{any_same_here}
 use Rattle.fan_marks.proofs.Rising.{IsBefore}
@@ -57,7 +57,7 @@ parts marks object order =
     (is_behind object order) marks
 
 -- the three exclude one another, and one of them holds
-before_only : (object order : ℕ) (mark : Mark) → is_before object order mark ≡ true
+pub before_only : (object order : ℕ) (mark : Mark) → is_before object order mark ≡ true
     → (is_at object order mark ≡ false) × (is_behind object order mark ≡ false)
 before_only object order mark is = (grind (arith, nat_tests), grind (arith, nat_tests))
 
@@ -148,7 +148,7 @@ differ : (a b : Bool) → a ≡ false → b ≡ true → a ≡ b → ⊥
 differ a b first second same = cc
 
 -- a mark that a test tells from another isn't the same
-not_same : (p : Mark → Bool) (mark other : Mark) → p mark ≡ false → p other ≡ true
+pub not_same : (p : Mark → Bool) (mark other : Mark) → p mark ≡ false → p other ≡ true
     → same_mark mark other ≡ false
 not_same p mark other fails passes =
     elim (same_mark mark other) as (λ test. same_mark mark other ≡ test → test ≡ false) [

@@ -1,10 +1,10 @@
 -- Where the marks of a place begin in a list, and what stands there after a Put.
-use Rattle.std.proofs.Common.{◌≡◌, ◌∙◌, ℕ, ◌+◌, ◌<◌, ◌≤◌, List, [], ◌∷◌, ◌++◌, Bool, true, false, drop, get_or, length, set, take, Option, Some, None, inl, inr, sym, refl, ap, arith, add-one, append_assoc, zero, suc}
+use Rattle.std.proofs.Common.{◌≡◌, ◌∙◌, ℕ, ◌+◌, ◌<◌, ◌≤◌, List, [], ◌∷◌, ◌++◌, Bool, true, drop, get_or, length, take, Option, Some, None, inl, inr, sym, refl, ap, arith, append_assoc, zero, suc}
 use Rattle.std.specs.Prelude.{All, IfSome, filter, find, slice_get}
-use Rattle.std.specs.List.Sorted.{IsPartitionedBy, IsPartitionPoint}
+use Rattle.std.specs.List.Sorted.{IsPartitionedBy}
 use Rattle.std.proofs.lemmas.Bool.{cases_lt}
 use Rattle.std.proofs.lemmas.Bool.Decides.{nat_tests}
-use Rattle.std.proofs.lemmas.List.{drop_at, length-append, set_split, take_at}
+use Rattle.std.proofs.lemmas.List.{drop_at, length-append, take_at}
 use Rattle.std.proofs.lemmas.List.Elements.{All-head, filter_passes}
 use Rattle.std.proofs.lemmas.Option.{IfSome_then}
 use Rattle.fan_bits.specs.declared.change.Change.TheVariants.{Put}
@@ -13,7 +13,7 @@ use Rattle.fan_bits.specs.declared.mark.Mark.{Mark}
 use Rattle.fan_bits.specs.declared.mark_call.MarkWords.{MarkWords}
 use Rattle.fan_bits.specs.Marks.{IsChange, IsMarkList, Rises, changed, is_before, is_behind, listed, mark_of, order_number, updated}
 use Rattle.fan_marks.specs.Made.{IsMade, is_at, there, told_put}
-use Rattle.fan_marks.proofs.Parts.{behind_only, filter_none, mark_of_at, parts_are, put_made}
+use Rattle.fan_marks.proofs.Parts.{behind_only, mark_of_at, parts_are, put_made}
 use Rattle.fan_marks.proofs.Putting.{find_all}
 use Rattle.fan_marks.proofs.Rising.{IsBefore}
 
@@ -43,29 +43,6 @@ pub rises_parted : (object order : ℕ) (marks : List Mark) → Rises marks
     → IsPartitionedBy (is_before object order) marks
 rises_parted object order = rises_parted_by (is_before object order) (before_too object order)
 
--- the place where a test turns is the number of those that pass
-pub parted_at : (p : Mark → Bool) (marks : List Mark) (at : ℕ) → at ≤ length marks
-    → IsPartitionPoint (λ mark. p mark ≡ true) (λ mark. p mark ≡ false) marks at
-    → at ≡ length (filter p marks)
-parted_at p [] zero within point = refl
-parted_at p [] (suc at) within point = absurd (omega arith)
-parted_at p (x ∷ xs) zero within point =
-    ap length (sym (filter_none p (x ∷ xs) (λ k d inside. point.1 k d (omega arith) inside)))
-parted_at p (x ∷ xs) (suc at) within point =
-    rw (point.0 0 x (omega arith) (omega arith)) (ap suc (parted_at p xs at (omega arith) (
-      (λ k d low high. point.0 (suc k) d (omega arith) (omega arith)),
-      (λ k d low high. point.1 (suc k) d (omega arith) (omega arith)),
-    )))
-
--- what a mark in another's place makes of the list
-pub set_in_place : (marks : List Mark) (at : ℕ) (old mark : Mark) (was new : Option Mark) → was ≡ Some old
-    → new ≡ Some mark
-    → at + length (listed was) ≤ length marks
-    → set marks at mark ≡ take at marks ++ listed new ++ drop (at + length (listed was)) marks
-set_in_place marks at old mark was new first second within =
-    let some : at < length marks = omega (arith, (rw first at within)) in
-    rw (first, second) (set_split marks at mark some ∙ simp (append_assoc, add-one))
-
 -- a list of three parts has the second where the first ends
 parts_at : (marks front here back : List Mark) (at : ℕ) → marks ≡ front ++ here ++ back → at ≡ length front
     → (take at marks ≡ front) × (drop (at + length here) marks ≡ back) × (at + length here ≤ length marks)
@@ -76,7 +53,7 @@ parts_at marks front here back at is same = (
 )
 
 -- what a Put goes by: the marks before its place, the one there, and those behind it
-parts_of : (marks : List Mark) (group : ℕ) (class : Class) (words : MarkWords) (object : ℕ) → IsMarkList marks
+pub parts_of : (marks : List Mark) (group : ℕ) (class : Class) (words : MarkWords) (object : ℕ) → IsMarkList marks
     → IsChange marks (Put group class words object)
     → marks ≡ filter (is_before object (order_number class group)) marks ++ listed
     (mark_of marks group object)
@@ -84,16 +61,6 @@ parts_of : (marks : List Mark) (group : ℕ) (class : Class) (words : MarkWords)
 parts_of marks group class words object list is =
     rw (mark_of_at marks group class object list.each is.0.1 is.4)
     (parts_are object (order_number class group) marks list.rises)
-
--- the mark of a group on an object stands within the list
-pub place_within : (marks : List Mark) (group : ℕ) (class : Class) (words : MarkWords) (object : ℕ) (at : ℕ)
-    (was : Option Mark)
-    → IsMarkList marks → IsChange marks (Put group class words object)
-    → at ≡ length (filter (is_before object (order_number class group)) marks)
-    → was ≡ mark_of marks group object
-    → at + length (listed was) ≤ length marks
-place_within marks group class words object at was list is same found =
-    rw found (parts_at marks _ _ _ at (parts_of marks group class words object list is) same).2
 
 -- what is found at a place stands there
 found_at : (object order : ℕ) (marks : List Mark)
@@ -124,7 +91,8 @@ placed_made old made group class words object at was new list is same found beco
     (rw (found, mark_of_at old group class object list.each is.0.1 is.4) (found_at object order old))
     three put (rw (done, at_parts.0, at_parts.1, put) refl)
 
-get_behind : (front back : List Mark) (at : ℕ) → at ≡ length front
+-- behind the marks before a place
+pub get_behind : (front back : List Mark) (at : ℕ) → at ≡ length front
     → slice_get (front ++ back) at ≡ slice_get back 0
 get_behind [] back at same = rw same refl
 get_behind (x ∷ xs) back at same = rw same (get_behind xs back (length xs) refl)

@@ -106,7 +106,8 @@ put_on_is verbs.Flush words mark group class object small is = is
 abbrev pub IsNew : ℕ → Class → ℕ → Mark → Type 0
 IsNew group class object mark = IsPut group class object mark × (stands mark ≡ true)
 
-standing_is : (mark : Mark) (group : ℕ) (class : Class) (object : ℕ) → IsPut group class object mark
+-- the mark, where it stands, is new
+pub standing_is : (mark : Mark) (group : ℕ) (class : Class) (object : ℕ) → IsPut group class object mark
     → IfSome (standing mark) (IsNew group class object)
 standing_is mark group class object is =
     elim (stands mark) as

@@ -9,7 +9,7 @@ use Rattle.fan_bits.specs.declared.kind.Kind.TheVariants as kinds
 use Rattle.fan_bits.specs.declared.mark.Mark.{Mark}
 use Rattle.fan_bits.specs.Marks.{same_kind}
 use Rattle.fan_bits.specs.Words.{rank_of}
-use Rattle.fan_marks.specs.Book.{same_flag, same_mark}
+use Rattle.fan_bits.specs.Marks.{same_flag, same_mark}
 
 kind_self : (kind : Kind) → same_kind kind kind ≡ true
 kind_self kinds.Inode = refl
@@ -20,7 +20,8 @@ flag_self : (flag : Bool) → same_flag flag flag ≡ true
 flag_self true = refl
 flag_self false = refl
 
-kind_same : (kind other : Kind) → same_kind kind other ≡ true → kind ≡ other
+-- kinds that are the same are one
+pub kind_same : (kind other : Kind) → same_kind kind other ≡ true → kind ≡ other
 kind_same kinds.Inode kinds.Inode is = refl
 kind_same kinds.Mount kinds.Mount is = refl
 kind_same kinds.Filesystem kinds.Filesystem is = refl
@@ -31,7 +32,8 @@ kind_same kinds.Mount kinds.Filesystem is = absurd (cc)
 kind_same kinds.Filesystem kinds.Inode is = absurd (cc)
 kind_same kinds.Filesystem kinds.Mount is = absurd (cc)
 
-class_same : (class other : Class) → rank_of class ≡ rank_of other → class ≡ other
+-- classes of one rank are one
+pub class_same : (class other : Class) → rank_of class ≡ rank_of other → class ≡ other
 class_same PreContent PreContent is = refl
 class_same Content Content is = refl
 class_same Notif Notif is = refl

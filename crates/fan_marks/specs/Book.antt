@@ -1,13 +1,11 @@
 -- The book of all marks, and which changes it refuses.
-use Rattle.std.specs.Prelude.{◌≡◌, ℕ, ◌==◌, ◌&&◌, Bool, true, false, not, List, Option, Some, None, filter, is_some, is_none, nat_lt, if◌then◌else◌}
-use Rattle.std.specs.List.{list_any}
+use Rattle.std.specs.Prelude.{◌≡◌, ℕ, ◌&&◌, Bool, true, false, not, List, Option, Some, None, is_some, is_none, nat_lt, if◌then◌else◌}
 use Rattle.fan_bits.specs.declared.change.Change.{Change}
 use Rattle.fan_bits.specs.declared.change.Change.TheVariants.{Put, Flush, Clear, DropGroup, DropObject}
 use Rattle.fan_bits.specs.declared.kind.Verb.{Verb}
 use Rattle.fan_bits.specs.declared.kind.Verb.TheVariants as verbs
 use Rattle.fan_bits.specs.declared.mark.Mark.{Mark}
-use Rattle.fan_bits.specs.Marks.{changed, count_of, mark_of, put_mark, same_kind}
-use Rattle.fan_bits.specs.Words.{rank_of}
+use Rattle.fan_bits.specs.Marks.{count_of, mark_of, put_mark}
 use Rattle.fan_marks.specs.declared.book.MarkRefused.{MarkRefused}
 use Rattle.fan_marks.specs.declared.book.MarkRefused.TheVariants.{NoMark, Limit, NoMemory}
 
@@ -15,26 +13,6 @@ use Rattle.fan_marks.specs.declared.book.MarkRefused.TheVariants.{NoMark, Limit,
 pub record BookState : Type 0 where
   pub marks : List Mark
   pub spare : ℕ
-
--- the two answers are the same
-abbrev pub same_flag : Bool → Bool → Bool
-same_flag true other = other
-same_flag false other = not other
-
--- the two marks are the same, field by field
-unfoldable pub same_mark : Mark → Mark → Bool
-same_mark mark other =
-    mark.group == other.group
-    && rank_of mark.class == rank_of other.class
-    && mark.object == other.object
-    && same_kind mark.kind other.kind
-    && mark.mask == other.mask
-    && mark.ignored == other.ignored
-    && same_flag mark.survives other.survives
-
--- the marks that a change removes, or replaces by different ones
-unfoldable pub retired : List Mark → Change → List Mark
-retired marks change = filter (λ mark. not (list_any (same_mark mark) (changed marks change))) marks
 
 -- how many marks a group has at most
 abbrev pub most_marks : ℕ

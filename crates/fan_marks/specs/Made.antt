@@ -1,10 +1,10 @@
 -- What is told of a change that was made.
-use Rattle.std.specs.Prelude.{◌≡◌, ◌≢◌, ◌↔◌, ℕ, ◌-◌, ◌==◌, ◌&&◌, if◌then◌else◌, min, nat_lt, Bool, true, false, not, List, Option, Some, None, length}
+use Rattle.std.specs.Prelude.{◌≡◌, ◌≢◌, ◌↔◌, ℕ, ◌==◌, ◌&&◌, if◌then◌else◌, nat_lt, Bool, true, false, not, List, Option, Some, None, length}
 use Rattle.fan_bits.specs.declared.change.Change.{Change}
 use Rattle.fan_bits.specs.declared.change.Changed.{Changed}
 use Rattle.fan_bits.specs.declared.mark.Mark.{Mark}
 use Rattle.fan_bits.specs.Marks.{changed, order_of}
-use Rattle.fan_marks.specs.Book.{retired, same_mark}
+use Rattle.fan_bits.specs.Marks.{retired, same_mark}
 
 -- a list became another by a change, and this is told of it
 pub record IsMade (old new : List Mark) (change : Change) (done : Changed) : Type 0 where
@@ -48,10 +48,6 @@ told_count count = record { changed = nat_lt 0 count; retired = count }
 -- how many marks a book holds at most
 abbrev pub most_in_book : ℕ
 most_in_book = 4294967295
-
--- for how many new marks there is room, by the room that was taken and the marks
-abbrev pub spare_of : ℕ → ℕ → ℕ
-spare_of capacity count = min capacity most_in_book - count
 
 -- a mark where it is on an object
 abbrev pub if_on : ℕ → Option Mark → Option Mark

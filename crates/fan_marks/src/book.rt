@@ -3,10 +3,11 @@ ghost use Rattle.std.specs.Prelude.{◌≡◌, Err, ◌≢◌, ◌≤◌, ◌↔
 ghost use Rattle.fan_bits.specs.declared.mark.Mark.{Mark};
 ghost use Rattle.fan_bits.specs.Marks.{IsChange, IsMarkList, changed, count_of, mark_of, next_on};
 ghost use Rattle.fan_bits.specs.Places.{IsObject};
-ghost use Rattle.fan_marks.specs.Book.{IsRefused, may_grow, refusal_of, retired};
+ghost use Rattle.fan_marks.specs.Book.{IsRefused, may_grow, refusal_of};
+ghost use Rattle.fan_bits.specs.Marks.{retired};
 
-use super::edits::{make, reserve};
-use super::finds::{count_marks, find_mark, next_mark};
+use super::edits::make;
+use super::marks::Marks;
 use super::refusal::refusal;
 #[cfg(test)]
 use super::takes::takes;
@@ -62,23 +63,20 @@ impl<T: Drop> From<AllocFailed<T>> for MarkRefused {
 /// All marks of all groups.
 #[derive(Drop)]
 pub struct MarkBook {
-    marks: Vec<Mark>,
+    marks: Marks,
 }
 
 impl Model for MarkBook {
-    ghost use Rattle.std.specs.Prelude.{◌≤◌, length, vec_capacity, vec_len};
+    ghost use Rattle.std.specs.Prelude.{◌≤◌, length};
     ghost use Rattle.fan_bits.specs.Marks.{IsMarkList};
     ghost use Rattle.fan_marks.specs.Book.{BookState};
-    ghost use Rattle.fan_marks.specs.Made.{most_in_book, spare_of};
+    ghost use Rattle.fan_marks.specs.Made.{most_in_book};
 
     ghost Value = { BookState };
 
-    ghost view = { λ b. record {
-      marks = b.marks.items;
-      spare = spare_of (vec_capacity b.marks) (vec_len b.marks);
-    } };
+    ghost view = { λ b. b.marks };
 
-    ghost invariant = { λ b. IsMarkList b.marks.items × (length b.marks.items ≤ most_in_book) };
+    ghost invariant = { λ b. IsMarkList b.marks.marks × (length b.marks.marks ≤ most_in_book) };
 }
 
 impl MarkBook {
@@ -87,7 +85,7 @@ impl MarkBook {
         ensures empty { IfOk result (λ book. book.marks ≡ []) }
     {
         Ok(MarkBook {
-            marks: Vec::new(alloc),
+            marks: Marks::new(alloc),
         })
     }
 
@@ -96,14 +94,14 @@ impl MarkBook {
         ensures found { result ≡ mark_of self.now.marks group object }
         ensures whole { IsMarkList self.now.marks }
     {
-        find_mark(&self.marks, group, object)
+        self.marks.find(group, object)
     }
 
     /// How many marks a group has.
     pub fn count(&self, group: u32) -> u32
         ensures { result ≡ count_of self.now.marks group }
     {
-        count_marks(&self.marks, group) as u32
+        self.marks.count(group) as u32
     }
 
     /// Makes room for a new mark, so that the next change finds it whatever memory is left then.
@@ -111,7 +109,7 @@ impl MarkBook {
         ensures room { OnOk result (1 ≤ self.new.spare) }
         ensures same { self.new.marks ≡ self.old.marks }
     {
-        reserve(&mut self.marks)
+        self.marks.reserve()
     }
 
     /// For tests: whether a change may be made: its numbers are in their ranges, it does what a Put may do, and the
@@ -159,6 +157,6 @@ impl Connectors for MarkBook {
             → result ≡ next_on marks object after.0 }
         ensures same { self.new ≡ self.old }
     {
-        next_mark(&self.marks, object, after)
+        self.marks.next(object, after)
     }
 }

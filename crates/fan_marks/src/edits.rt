@@ -1,27 +1,28 @@
-// What each change makes of a list of marks, and what is told of it.
-ghost use Rattle.std.specs.Prelude.{◌≡◌, true, ◌+◌, ◌≤◌, ◌<◌, ◌^◌, ◌++◌, ◌==◌, ◌&&◌, IfOk, OnOk, OnErr, Option, count_by, drop, filter, insert, length, map, not, take, vec_capacity, vec_len};
+// What each change makes of the marks, and what is told of it.
+ghost use Rattle.std.specs.Prelude.{◌≡◌, true, ◌+◌, ◌≤◌, ◌==◌, ◌&&◌, [], IfOk, OnOk, OnErr, count_by, filter, length, map, not};
 ghost use Rattle.fan_bits.specs.declared.change.Change.TheVariants.{Put, Flush, Clear, DropGroup, DropObject};
-ghost use Rattle.fan_bits.specs.Marks.{IsChange, IsMarkList, Rises, cleared, is_before, listed, next_on, same_kind, stands};
-ghost use Rattle.fan_marks.specs.Book.{may_grow, same_mark};
-ghost use Rattle.fan_marks.specs.Made.{IsMade, forgets, is_other, is_retired, most_in_book, spare_of, told_count, told_put};
+ghost use Rattle.fan_bits.specs.Marks.{IsChange, IsMarkList, cleared, is_before, listed, order_of, standing, stands};
+ghost use Rattle.fan_marks.specs.Book.{may_grow};
+ghost use Rattle.fan_bits.specs.Marks.{same_mark};
+ghost use Rattle.fan_marks.specs.Made.{IsMade, forgets, is_other, is_retired, most_in_book, told_count, told_put};
+ghost use Rattle.fan_marks.specs.Spliced.{spliced};
+ghost use Rattle.fan_marks.specs.Which.{IsAmong, StandsAt, is_one};
 
-use super::finds::{find_place, mark_of};
+use super::marks::Marks;
+use super::which::Which;
 use fan_bits::{Change, Changed, Class, Kind, Mark, MarkWords, Order, updated};
 use fan_io::NoMemory;
 
-// How many marks a book holds at most.
-const MOST_IN_BOOK: u32 = u32::MAX;
-
-/// Makes a change of a list of marks.
-pub(crate) fn make(marks: &mut Vec<Mark>, change: &Change) -> Result<Changed, NoMemory>
-    requires list { IsMarkList marks.old.items }
-    requires change { IsChange marks.old.items change.now }
-    requires count { length marks.old.items ≤ most_in_book }
-    ensures ok { IfOk result (λ done. IsMade marks.old.items marks.new.items change.now done) }
-    ensures err { OnErr result (marks.new.items ≡ marks.old.items) }
+/// Makes a change of the marks.
+pub(crate) fn make(marks: &mut Marks, change: &Change) -> Result<Changed, NoMemory>
+    requires list { IsMarkList marks.old.marks }
+    requires change { IsChange marks.old.marks change.now }
+    requires count { length marks.old.marks ≤ most_in_book }
+    ensures ok { IfOk result (λ done. IsMade marks.old.marks marks.new.marks change.now done) }
+    ensures err { OnErr result (marks.new.marks ≡ marks.old.marks) }
     ensures growth { OnErr result (may_grow change.now ≡ true) }
-    ensures full { OnErr result (spare_of (vec_capacity marks.old) (vec_len marks.old) ≡ 0) }
-    ensures count { length marks.new.items ≤ most_in_book }
+    ensures full { OnErr result (marks.old.spare ≡ 0) }
+    ensures count { length marks.new.marks ≤ most_in_book }
 {
     match *change {
         Change::Put {
@@ -39,20 +40,20 @@ pub(crate) fn make(marks: &mut Vec<Mark>, change: &Change) -> Result<Changed, No
 
 // Puts bits on the mark of a group on an object, or takes them from it.
 fn put(
-    marks: &mut Vec<Mark>,
+    marks: &mut Marks,
     group: u32,
     class: Class,
     words: MarkWords,
     object: u32,
 ) -> Result<Changed, NoMemory>
-    requires list { IsMarkList marks.old.items }
-    requires change { IsChange marks.old.items (Put group class words object) }
-    requires count { length marks.old.items ≤ most_in_book }
+    requires list { IsMarkList marks.old.marks }
+    requires change { IsChange marks.old.marks (Put group class words object) }
+    requires count { length marks.old.marks ≤ most_in_book }
     ensures ok { IfOk result (λ done.
-        IsMade marks.old.items marks.new.items (Put group class words object) done) }
-    ensures err { OnErr result (marks.new.items ≡ marks.old.items) }
-    ensures full { OnErr result (spare_of (vec_capacity marks.old) (vec_len marks.old) ≡ 0) }
-    ensures count { length marks.new.items ≤ most_in_book }
+        IsMade marks.old.marks marks.new.marks (Put group class words object) done) }
+    ensures err { OnErr result (marks.new.marks ≡ marks.old.marks) }
+    ensures full { OnErr result (marks.old.spare ≡ 0) }
+    ensures count { length marks.new.marks ≤ most_in_book }
 {
     let change = Change::Put {
         group,
@@ -60,51 +61,33 @@ fn put(
         words,
         object,
     };
-    let was = mark_of(marks, group, class, object);
+    let was = marks.find_of(group, class, object);
     let new = updated(was, &change);
-    let at = find_place(marks, object, Order::of(class, group));
+    let at = marks.find_place(object, Order::of(class, group));
     place(marks, at, was, new)?;
     Ok(told_put(was, new))
 }
 
 // Puts a mark, or none, where another stood, or none.
-fn place(
-    marks: &mut Vec<Mark>,
-    at: usize,
-    was: Option<Mark>,
-    new: Option<Mark>,
-) -> Result<(), NoMemory>
-    requires within { at + length (listed was) ≤ length marks.old.items }
-    requires count { length marks.old.items ≤ most_in_book }
-    ensures ok { OnOk result (marks.new.items ≡ take at marks.old.items ++ listed new
-        ++ drop (at + length (listed was)) marks.old.items) }
-    ensures err { OnErr result (marks.new.items ≡ marks.old.items) }
-    ensures full { OnErr result (spare_of (vec_capacity marks.old) (vec_len marks.old) ≡ 0) }
-    ensures count { length marks.new.items ≤ most_in_book }
+fn place(marks: &mut Marks, at: usize, was: Option<Mark>, new: Option<Mark>) -> Result<(), NoMemory>
+    requires list { IsMarkList marks.old.marks }
+    requires here { StandsAt marks.old.marks at was }
+    requires count { length marks.old.marks ≤ most_in_book }
+    ensures ok { OnOk result (marks.new.marks
+        ≡ spliced marks.old.marks at (length (listed was)) (listed new)) }
+    ensures err { OnErr result (marks.new.marks ≡ marks.old.marks) }
+    ensures full { OnErr result (marks.old.spare ≡ 0) }
+    ensures count { length marks.new.marks ≤ most_in_book }
 {
     match (was, new) {
         (None, None) => {}
-        (None, Some(mark)) => insert(marks, at, mark)?,
-        (Some(_), None) => {
-            marks.remove(at);
+        (None, Some(mark)) => {
+            marks.reserve()?;
+            marks.insert(at, mark);
         }
-        (Some(_), Some(mark)) => marks[at] = mark,
+        (Some(old), None) => marks.remove(at, old),
+        (Some(old), Some(mark)) => marks.set(at, old, mark),
     }
-    Ok(())
-}
-
-// Puts one more mark into the list.
-fn insert(marks: &mut Vec<Mark>, at: usize, mark: Mark) -> Result<(), NoMemory>
-    requires { at ≤ length marks.old.items }
-    ensures ok { OnOk result (marks.new.items ≡ insert marks.old.items at mark) }
-    ensures count { OnOk result (length marks.old.items < most_in_book) }
-    ensures err { OnErr result (marks.new.items ≡ marks.old.items) }
-    ensures full { OnErr result (spare_of (vec_capacity marks.old) (vec_len marks.old) ≡ 0) }
-{
-    if marks.len() >= MOST_IN_BOOK as usize {
-        return Err(NoMemory);
-    }
-    marks.insert(at, mark)?;
     Ok(())
 }
 
@@ -141,7 +124,7 @@ fn is_retired(was: Option<Mark>, new: Option<Mark>) -> bool
 }
 
 // Whether two marks are the same.
-#[tactic(auto, unfolding(crate::specs::Book::same_mark))]
+#[tactic(auto, unfolding(fan_bits::specs::Marks::same_mark))]
 fn same_mark(mark: Mark, other: Mark) -> bool
     ensures { result ≡ same_mark mark other }
 {
@@ -155,43 +138,59 @@ fn same_mark(mark: Mark, other: Mark) -> bool
 }
 
 // Drops the marks of a group on objects of a kind.
-fn flush(marks: &mut Vec<Mark>, group: u32, kind: Kind) -> Changed
-    requires { length marks.old.items ≤ most_in_book }
-    ensures made { IsMade marks.old.items marks.new.items (Flush group kind) result }
-    ensures count { length marks.new.items ≤ most_in_book }
+fn flush(marks: &mut Marks, group: u32, kind: Kind) -> Changed
+    requires list { IsMarkList marks.old.marks }
+    requires count { length marks.old.marks ≤ most_in_book }
+    ensures made { IsMade marks.old.marks marks.new.marks (Flush group kind) result }
+    ensures count { length marks.new.marks ≤ most_in_book }
 {
-    let before = marks.len();
-    marks.retain(|mark| !is_of_kind(*mark, group, kind));
-    told_count(before - marks.len())
-}
-
-// Whether a mark is a group's, on an object of a kind.
-fn is_of_kind(mark: Mark, group: u32, kind: Kind) -> bool
-    ensures { result ≡ (mark.group == group && same_kind mark.kind kind) }
-{
-    mark.group == group && mark.kind == kind
+    told_count(drop_all(marks, Which::OfKind { group, kind }))
 }
 
 // Drops the marks of a group.
-fn drop_group(marks: &mut Vec<Mark>, group: u32) -> Changed
-    requires { length marks.old.items ≤ most_in_book }
-    ensures made { IsMade marks.old.items marks.new.items (DropGroup group) result }
-    ensures count { length marks.new.items ≤ most_in_book }
+fn drop_group(marks: &mut Marks, group: u32) -> Changed
+    requires list { IsMarkList marks.old.marks }
+    requires count { length marks.old.marks ≤ most_in_book }
+    ensures made { IsMade marks.old.marks marks.new.marks (DropGroup group) result }
+    ensures count { length marks.new.marks ≤ most_in_book }
 {
-    let before = marks.len();
-    marks.retain(|mark| mark.group != group);
-    told_count(before - marks.len())
+    told_count(drop_all(marks, Which::OfGroup { group }))
 }
 
 // Drops the marks on an object.
-fn drop_object(marks: &mut Vec<Mark>, object: u32) -> Changed
-    requires { length marks.old.items ≤ most_in_book }
-    ensures made { IsMade marks.old.items marks.new.items (DropObject object) result }
-    ensures count { length marks.new.items ≤ most_in_book }
+fn drop_object(marks: &mut Marks, object: u32) -> Changed
+    requires list { IsMarkList marks.old.marks }
+    requires count { length marks.old.marks ≤ most_in_book }
+    ensures made { IsMade marks.old.marks marks.new.marks (DropObject object) result }
+    ensures count { length marks.new.marks ≤ most_in_book }
 {
-    let before = marks.len();
-    marks.retain(|mark| mark.object != object);
-    told_count(before - marks.len())
+    told_count(drop_all(marks, Which::OnObject { object }))
+}
+
+// Drops the marks that are meant, and tells how many they were.
+fn drop_all(marks: &mut Marks, which: Which) -> usize
+    requires list { IsMarkList marks.old.marks }
+    requires count { length marks.old.marks ≤ most_in_book }
+    ensures kept { marks.new.marks ≡ filter (λ mark. not (is_one which mark)) marks.old.marks }
+    ensures count { result + length marks.new.marks ≡ length marks.old.marks }
+{
+    let mut gone = 0;
+    while let Some(mark) = marks.first(which) {
+        drop_mark(marks, mark);
+        gone += 1;
+    }
+    gone
+}
+
+// Drops a mark.
+fn drop_mark(marks: &mut Marks, mark: Mark)
+    requires list { IsMarkList marks.old.marks }
+    requires among { IsAmong marks.old.marks mark }
+    ensures kept { marks.new.marks ≡ filter (λ other. not (same_mark mark other)) marks.old.marks }
+    ensures count { length marks.new.marks + 1 ≡ length marks.old.marks }
+{
+    let at = marks.find_place(mark.object, mark.order());
+    marks.remove(at, mark);
 }
 
 // What is told where so many marks are gone.
@@ -206,43 +205,57 @@ fn told_count(count: usize) -> Changed
 }
 
 // Empties the ignored sets on a file that is written to, but for those that survive it.
-fn clear(marks: &mut Vec<Mark>, object: u32) -> Changed
-    requires list { IsMarkList marks.old.items }
-    requires count { length marks.old.items ≤ most_in_book }
-    ensures made { IsMade marks.old.items marks.new.items (Clear object) result }
-    ensures count { length marks.new.items ≤ most_in_book }
+fn clear(marks: &mut Marks, object: u32) -> Changed
+    requires list { IsMarkList marks.old.marks }
+    requires count { length marks.old.marks ≤ most_in_book }
+    ensures made { IsMade marks.old.marks marks.new.marks (Clear object) result }
+    ensures count { length marks.new.marks ≤ most_in_book }
 {
-    let count = count_forgetting(marks, object);
-    forget(marks, object);
-    told_count(count)
+    told_count(forget_all(marks, object))
 }
 
-// Empties those ignored sets, and drops the marks that don't stand any more.
-fn forget(marks: &mut Vec<Mark>, object: u32)
-    ensures made { marks.new.items ≡ filter stands (map (cleared object) marks.old.items) }
-    ensures count { length marks.new.items ≤ length marks.old.items }
+// Empties those ignored sets, drops the marks that don't stand any more, and tells how many sets they were.
+fn forget_all(marks: &mut Marks, object: u32) -> usize
+    requires list { IsMarkList marks.old.marks }
+    requires count { length marks.old.marks ≤ most_in_book }
+    ensures made { marks.new.marks ≡ filter stands (map (cleared object) marks.old.marks) }
+    ensures gone { result ≡ count_by (forgets object) marks.old.marks }
+    ensures count { length marks.new.marks ≤ length marks.old.marks }
 {
-    clear_all(marks, object);
-    keep_standing(marks);
-}
-
-// How many marks forget what they ignore where a file is written to.
-fn count_forgetting(marks: &[Mark], object: u32) -> usize
-    ensures { result ≡ count_by (forgets object) marks.now }
-{
-    marks
-        .iter()
-        .filter(|mark| mark.object == object && !mark.survives && mark.ignored != 0)
-        .count()
-}
-
-// Empties those ignored sets, and leaves the marks that don't stand any more.
-fn clear_all(marks: &mut [Mark], object: u32)
-    ensures { marks.new ≡ map (cleared object) marks.old }
-{
-    for mark in marks.iter_mut() {
-        *mark = cleared(*mark, object);
+    let mut after = Order::START;
+    let mut gone = 0;
+    while let Some(mark) = marks.next(object, after) {
+        after = mark.order();
+        if forgets(mark, object) {
+            forget(marks, mark, object);
+            gone += 1;
+        }
     }
+    gone
+}
+
+// Whether a mark forgets what it ignores where a file is written to.
+fn forgets(mark: Mark, object: u32) -> bool
+    ensures { result ≡ forgets object mark }
+{
+    mark.object == object && !mark.survives && mark.ignored != 0
+}
+
+// Empties the ignored set of a mark, and drops the mark where it doesn't stand any more.
+fn forget(marks: &mut Marks, mark: Mark, object: u32)
+    requires list { IsMarkList marks.old.marks }
+    requires among { IsAmong marks.old.marks mark }
+    ensures { marks.new.marks ≡ spliced marks.old.marks
+        (length (filter (is_before mark.object (order_of mark)) marks.old.marks)) 1
+        (listed (standing (cleared object mark))) }
+{
+    let at = marks.find_place(mark.object, mark.order());
+    let new = cleared(mark, object);
+    if new.stands() {
+        marks.set(at, mark, new);
+        return;
+    }
+    marks.remove(at, mark);
 }
 
 // A mark on a file that is written to.
@@ -254,25 +267,4 @@ fn cleared(mark: Mark, object: u32) -> Mark
     } else {
         mark
     }
-}
-
-// Drops the marks that don't stand.
-fn keep_standing(marks: &mut Vec<Mark>)
-    ensures stands { marks.new.items ≡ filter stands marks.old.items }
-    ensures count { length marks.new.items ≤ length marks.old.items }
-{
-    marks.retain(|mark| mark.stands());
-}
-
-/// Makes room for one more mark.
-pub(crate) fn reserve(marks: &mut Vec<Mark>) -> Result<(), NoMemory>
-    requires { length marks.old.items ≤ most_in_book }
-    ensures room { OnOk result (1 ≤ spare_of (vec_capacity marks.new) (vec_len marks.new)) }
-    ensures same { marks.new.items ≡ marks.old.items }
-{
-    if marks.len() >= MOST_IN_BOOK as usize {
-        return Err(NoMemory);
-    }
-    marks.reserve(1)?;
-    Ok(())
 }

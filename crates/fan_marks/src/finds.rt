@@ -1,54 +1,42 @@
-// Marks that are found in a list of marks.
-ghost use Rattle.std.specs.Prelude.{◌≡◌, ◌==◌, All, find, filter, length, slice_get};
-ghost use Rattle.fan_bits.specs.Marks.{IsMarkList, Rises, count_of, is_before, is_behind, mark_of, next_on};
+// Marks that are found among those by object and order.
+ghost use Rattle.std.specs.Prelude.{◌≡◌, All, find, filter, length, slice_get};
+ghost use Rattle.fan_bits.specs.Marks.{IsMarkList, Rises, is_before, mark_of, next_on};
 ghost use Rattle.fan_marks.specs.Made.{if_on, is_at, there};
 
+use super::cut::Cut;
+use super::index::Index;
 use fan_bits::{Class, Mark, Order};
 
-/// The mark of a group on an object.
-pub(crate) fn find_mark(marks: &[Mark], group: u32, object: u32) -> Option<Mark>
-    ensures { result ≡ mark_of marks.now group object }
+/// The mark of a group on an object: the group's class is one of three.
+pub(crate) fn find_mark(places: &Index, group: u32, object: u32) -> Option<Mark>
+    requires { IsMarkList places.now.marks }
+    ensures { result ≡ mark_of places.now.marks group object }
 {
-    marks
-        .iter()
-        .copied()
-        .find(|mark| mark.group == group && mark.object == object)
-}
-
-/// How many marks a group has.
-pub(crate) fn count_marks(marks: &[Mark], group: u32) -> usize
-    ensures { result ≡ count_of marks.now group }
-{
-    marks.iter().filter(|mark| mark.group == group).count()
+    if let Some(mark) = mark_at(places, object, Order::of(Class::Notif, group)) {
+        return Some(mark);
+    }
+    if let Some(mark) = mark_at(places, object, Order::of(Class::Content, group)) {
+        return Some(mark);
+    }
+    mark_at(places, object, Order::of(Class::PreContent, group))
 }
 
 /// The mark of a group on an object, by the class of the group's marks.
-pub(crate) fn mark_of(marks: &[Mark], group: u32, class: Class, object: u32) -> Option<Mark>
-    requires list { IsMarkList marks.now }
-    requires class { All (λ mark. mark.group ≡ group → mark.class ≡ class) marks.now }
-    ensures { result ≡ mark_of marks.now group object }
+pub(crate) fn mark_of(places: &Index, group: u32, class: Class, object: u32) -> Option<Mark>
+    requires list { IsMarkList places.now.marks }
+    requires class { All (λ mark. mark.group ≡ group → mark.class ≡ class) places.now.marks }
+    ensures { result ≡ mark_of places.now.marks group object }
 {
-    mark_at(marks, object, Order::of(class, group))
+    mark_at(places, object, Order::of(class, group))
 }
 
 // The mark at a place.
-fn mark_at(marks: &[Mark], object: u32, order: Order) -> Option<Mark>
-    requires { Rises marks.now }
-    ensures { result ≡ find (is_at object order.0) marks.now }
+fn mark_at(places: &Index, object: u32, order: Order) -> Option<Mark>
+    requires { Rises places.now.marks }
+    ensures { result ≡ find (is_at object order.0) places.now.marks }
 {
-    let at = find_place(marks, object, order);
-    there(read_at(marks, at), object, order)
-}
-
-// The mark with an index, if there is one.
-fn read_at(marks: &[Mark], at: usize) -> Option<Mark>
-    ensures { result ≡ slice_get marks.now at }
-{
-    if at < marks.len() {
-        Some(marks[at])
-    } else {
-        None
-    }
+    let at = find_place(places, object, order);
+    there(places.get(at), object, order)
 }
 
 // A mark where it stands at a place.
@@ -62,34 +50,23 @@ fn there(mark: Option<Mark>, object: u32, order: Order) -> Option<Mark>
 }
 
 /// Where the marks of a place begin, or would begin.
-pub(crate) fn find_place(marks: &[Mark], object: u32, order: Order) -> usize
-    requires { Rises marks.now }
-    ensures { result ≡ length (filter (is_before object order.0) marks.now) }
+pub(crate) fn find_place(places: &Index, object: u32, order: Order) -> usize
+    requires { Rises places.now.marks }
+    ensures { result ≡ length (filter (is_before object order.0) places.now.marks) }
 {
-    marks.partition_point(|mark| is_before(*mark, object, order))
-}
-
-// Whether a mark stands before a place.
-fn is_before(mark: Mark, object: u32, order: Order) -> bool
-    ensures { result ≡ is_before object order.0 mark }
-{
-    mark.object < object || (mark.object == object && mark.order().0 < order.0)
+    places.count_within(Cut::Before { object, order })
 }
 
 /// The first mark on an object behind an order.
-pub(crate) fn next_mark(marks: &[Mark], object: u32, after: Order) -> Option<Mark>
-    requires { Rises marks.now }
-    ensures { result ≡ next_on marks.now object after.0 }
+pub(crate) fn next_mark(places: &Index, object: u32, after: Order) -> Option<Mark>
+    requires { Rises places.now.marks }
+    ensures { result ≡ next_on places.now.marks object after.0 }
 {
-    let at = marks.partition_point(|mark| !is_behind(*mark, object, after));
-    if_on(read_at(marks, at), object)
-}
-
-// Whether a mark stands behind a place.
-fn is_behind(mark: Mark, object: u32, order: Order) -> bool
-    ensures { result ≡ is_behind object order.0 mark }
-{
-    object < mark.object || (mark.object == object && order.0 < mark.order().0)
+    let at = places.count_within(Cut::Behind {
+        object,
+        order: after,
+    });
+    if_on(places.get(at), object)
 }
 
 // A mark where it is on an object.

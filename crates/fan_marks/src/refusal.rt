@@ -5,17 +5,17 @@ ghost use Rattle.fan_bits.specs.Marks.{IsChange, IsMarkList, count_of};
 ghost use Rattle.fan_marks.specs.Book.{most_marks, refusal_of};
 
 use super::book::MarkRefused;
-use super::finds::{count_marks, mark_of};
-use fan_bits::{Change, Class, Mark, MarkWords, Verb, updated};
+use super::marks::Marks;
+use fan_bits::{Change, Class, MarkWords, Verb, updated};
 
 // How many marks a group has at most.
 const MOST_MARKS: u32 = 8192;
 
 /// Why a change is refused, if it is.
-pub(crate) fn refusal(marks: &[Mark], change: &Change, unlimited: bool) -> Option<MarkRefused>
-    requires list { IsMarkList marks.now }
-    requires change { IsChange marks.now change.now }
-    ensures { result ≡ refusal_of marks.now change.now unlimited }
+pub(crate) fn refusal(marks: &Marks, change: &Change, unlimited: bool) -> Option<MarkRefused>
+    requires list { IsMarkList marks.now.marks }
+    requires change { IsChange marks.now.marks change.now }
+    ensures { result ≡ refusal_of marks.now.marks change.now unlimited }
 {
     match *change {
         Change::Put {
@@ -34,16 +34,16 @@ pub(crate) fn refusal(marks: &[Mark], change: &Change, unlimited: bool) -> Optio
 // Why a Put is refused, if it is.
 #[tactic(auto, unfolding(fan_bits::specs::Marks::updated))]
 fn put_refusal(
-    marks: &[Mark],
+    marks: &Marks,
     group: u32,
     class: Class,
     words: MarkWords,
     object: u32,
     unlimited: bool,
 ) -> Option<MarkRefused>
-    requires list { IsMarkList marks.now }
-    requires change { IsChange marks.now (Put group class words object) }
-    ensures { result ≡ refusal_of marks.now (Put group class words object) unlimited }
+    requires list { IsMarkList marks.now.marks }
+    requires change { IsChange marks.now.marks (Put group class words object) }
+    ensures { result ≡ refusal_of marks.now.marks (Put group class words object) unlimited }
 {
     let change = Change::Put {
         group,
@@ -51,7 +51,7 @@ fn put_refusal(
         words,
         object,
     };
-    if mark_of(marks, group, class, object).is_some() {
+    if marks.find_of(group, class, object).is_some() {
         return None;
     }
     if words.verb == Verb::Remove {
@@ -67,8 +67,8 @@ fn put_refusal(
 }
 
 // A group has as many marks as it may have.
-fn is_full(marks: &[Mark], group: u32) -> bool
-    ensures { result ≡ not (nat_lt (count_of marks.now group) most_marks) }
+fn is_full(marks: &Marks, group: u32) -> bool
+    ensures { result ≡ not (nat_lt (count_of marks.now.marks group) most_marks) }
 {
-    marks.len() >= MOST_MARKS as usize && count_marks(marks, group) >= MOST_MARKS as usize
+    marks.count(group) >= MOST_MARKS as usize
 }

@@ -4,12 +4,14 @@ ghost use Rattle.fan_bits.specs.declared.change.Change.TheVariants.{Put};
 ghost use Rattle.fan_bits.specs.Marks.{IsChange, IsMarkList};
 ghost use Rattle.fan_bits.specs.Places.{IsObject};
 
+use super::marks::Marks;
+use super::which::Which;
 use fan_bits::{Change, Class, Mark, MarkWords, Verb};
 
 /// Whether a change may be made of a list.
-pub(crate) fn takes(marks: &[Mark], change: &Change) -> bool
-    requires { IsMarkList marks.now }
-    ensures { IsTrue result → IsChange marks.now change.now }
+pub(crate) fn takes(marks: &Marks, change: &Change) -> bool
+    requires { IsMarkList marks.now.marks }
+    ensures { IsTrue result → IsChange marks.now.marks change.now }
 {
     match *change {
         Change::Put {
@@ -25,9 +27,9 @@ pub(crate) fn takes(marks: &[Mark], change: &Change) -> bool
     }
 }
 
-fn takes_put(marks: &[Mark], group: u32, class: Class, words: MarkWords, object: u32) -> bool
-    requires { IsMarkList marks.now }
-    ensures { IsTrue result → IsChange marks.now (Put group class words object) }
+fn takes_put(marks: &Marks, group: u32, class: Class, words: MarkWords, object: u32) -> bool
+    requires { IsMarkList marks.now.marks }
+    ensures { IsTrue result → IsChange marks.now.marks (Put group class words object) }
 {
     if words.verb == Verb::Flush {
         return false;
@@ -45,12 +47,12 @@ fn is_in_range(group: u32, object: u32) -> bool
     group >= 1 && object >= 1 && object <= 65_535
 }
 
-// Whether all marks of a group have a class: its first mark tells.
-fn has_class(marks: &[Mark], group: u32, class: Class) -> bool
-    requires { IsMarkList marks.now }
-    ensures { IsTrue result → All (λ mark. mark.group ≡ group → mark.class ≡ class) marks.now }
+// Whether all marks of a group have a class: one of them tells.
+fn has_class(marks: &Marks, group: u32, class: Class) -> bool
+    requires { IsMarkList marks.now.marks }
+    ensures { IsTrue result → All (λ mark. mark.group ≡ group → mark.class ≡ class) marks.now.marks }
 {
-    let first = marks.iter().copied().find(|mark| mark.group == group);
+    let first = marks.first(Which::OfGroup { group });
     is_of_class(first, class)
 }
 

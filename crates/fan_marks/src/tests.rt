@@ -1,4 +1,5 @@
 // Histories of books, with the lists that fanotify_mark(2) makes of them.
+use super::index::Index;
 use super::*;
 use fan_bits::{Change, Changed, Class, Connectors, Kind, Mark, MarkWords, Order, Verb};
 use fan_io::NoMemory;
@@ -243,4 +244,49 @@ fn room_is_made_ahead(rt: HostRuntime) -> Result<(), Fail> {
     book.reserve()?;
     assert!(rt; put(&mut book, 1, 5, false).is_ok());
     Ok(())
+}
+
+// Neither side of a mark has more than three quarters of what is below it, counting one for an empty end: so of 4,096
+// marks 27 stand one below another at most, and of 2,048 marks 25.
+#[test]
+fn a_tree_stays_shallow(rt: HostRuntime) -> Result<(), Fail> {
+    let mut index = Index::new(rt.alloc());
+    for object in 1..4097 {
+        add_last(&mut index, object)?;
+    }
+    assert_eq!(rt; index.len(), 4096);
+    assert!(rt; index.depth() <= 27);
+    for _ in 0..2048 {
+        drop_first(&mut index);
+    }
+    assert_eq!(rt; index.len(), 2048);
+    assert!(rt; index.depth() <= 25);
+    Ok(())
+}
+
+// Puts a mark behind all others.
+fn add_last(index: &mut Index, object: u32) -> Result<(), NoMemory> {
+    let at = index.len();
+    index.reserve()?;
+    index.insert(at, mark_on(object));
+    Ok(())
+}
+
+// Takes the first mark out, if there is one.
+fn drop_first(index: &mut Index) {
+    if index.len() > 0 {
+        index.remove(0);
+    }
+}
+
+fn mark_on(object: u32) -> Mark {
+    Mark {
+        group: 1,
+        class: Class::Notif,
+        object,
+        kind: Kind::Inode,
+        mask: 0x20,
+        ignored: 0,
+        survives: false,
+    }
 }

@@ -1,15 +1,14 @@
-use Rattle.std.proofs.Common.{rules, refl, arith}
-use Rattle.std.specs.Prelude.{◌==◌, Bool, not}
-use Rattle.std.proofs.lemmas.Fn.{filter_same}
-use Rattle.fan_bits.specs.declared.mark.Mark.{Mark}
+use Rattle.std.proofs.Common.{refl}
+use Rattle.std.specs.Prelude.{not}
 use Rattle.fan_bits.specs.Marks.{changed}
+use Rattle.fan_marks.specs.Which.{is_one}
+use Rattle.fan_marks.specs.declared.which.Which.TheVariants.{OfGroup}
 use Rattle.fan_marks.proofs.Dropped.{drop_made}
 use Rattle.fan_marks.proofs.edits.drop_group.Goals as goal
 
 pub returns-clause-made : goal.returns-clause-made
 unfolding changed
 returns-clause-made c =
-    let kept : Mark → Bool = λ mark. not (mark.group == c.args.group) in
     rw c.told_count.ensures
-    (drop_made kept c.args.marks.now.items c.retain.new.self.items _ _ refl
-    (filter_same _ _ _ (λ x b f' k. search rules) _ _ c.retain.ensures.filtered) (omega arith))
+    (drop_made (λ mark. not (is_one (OfGroup c.args.group) mark)) c.args.marks.now.marks _ _ _ refl
+    c.drop_all.ensures.kept c.drop_all.ensures.count)

@@ -3,6 +3,6 @@ use Rattle.fan_marks.proofs.finds.mark_at.Goals as goal
 
 pub returns : goal.returns
 returns c =
-    rw (c.there.ensures, c.read_at.ensures)
-    (there_is c.args.object c.args.order.0 c.args.marks.now c.find_place-at.result c.requires
+    rw (c.there.ensures, c.get.ensures)
+    (there_is c.args.object c.args.order.0 c.args.places.now.marks c.find_place-at.result c.requires
     c.find_place-at.ensures)

@@ -5,14 +5,14 @@ use Rattle.fan_marks.proofs.book.MarkBook.change.Goals as goal
 
 pub invariant_of-self-2 : goal.invariant_of-self-2
 invariant_of-self-2 c =
-    let same : c.args.self.now.marks ≡ c.self.inside.marks.items = cc in (
-      kept_by_change c.args.self.now.marks c.self.inside.marks.items c.make.new.marks.items
+    let same : c.args.self.now.marks ≡ c.self.inside.marks.marks = cc in (
+      kept_by_change c.args.self.now.marks c.self.inside.marks.marks c.make.new.marks.marks
           c.args.change.now same c.requires c.self.invariant.0 c.in_ok-make.ensures.ok.made,
       c.in_ok-make.ensures.count,
     )
 
 pub returns-clause-whole : goal.returns-clause-whole
 returns-clause-whole c =
-    let same : c.args.self.now.marks ≡ c.self.inside.marks.items = cc in
-    kept_by_change c.args.self.now.marks c.self.inside.marks.items c.make.new.marks.items c.args.change.now
+    let same : c.args.self.now.marks ≡ c.self.inside.marks.marks = cc in
+    kept_by_change c.args.self.now.marks c.self.inside.marks.marks c.make.new.marks.marks c.args.change.now
     same c.requires c.self.invariant.0 c.in_ok-make.ensures.ok.made
