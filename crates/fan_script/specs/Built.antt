@@ -1,6 +1,6 @@
 -- Which steps the machine does by now.
 use Rattle.std.specs.Prelude.{◌≡◌, ℕ, Bool, true, false, not, List, [], ◌∷◌}
-use Rattle.fan_bits.specs.MarkWords.{has_any, mark_remove, ignored_mask, ignored_surv_modify, mark_flush}
+use Rattle.fan_bits.specs.MarkWords.{has_any}
 use Rattle.fan_bits.specs.Words.{report_fid, report_dir_fid, report_name}
 use Rattle.fan_script.specs.declared.line.Line.{Line}
 use Rattle.fan_script.specs.declared.line.Line.TheVariants.{One, Run}
@@ -13,16 +13,12 @@ use Rattle.fan_script.specs.declared.step.Step.TheVariants as steps
 abbrev pub unbuilt_init_flags : List ℕ
 unbuilt_init_flags = report_fid ∷ report_dir_fid ∷ report_name ∷ []
 
--- the flags of a mark that removes, flushes or ignores
-abbrev pub unbuilt_mark_flags : List ℕ
-unbuilt_mark_flags = mark_remove ∷ ignored_mask ∷ ignored_surv_modify ∷ mark_flush ∷ []
-
 -- the operations that are built
 abbrev pub is_built_op : OpWord → Bool
 is_built_op ops.Opens = true
 is_built_op ops.Execs = false
 is_built_op ops.Reads = false
-is_built_op ops.Writes = false
+is_built_op ops.Writes = true
 is_built_op ops.ClosesWrite = false
 is_built_op ops.ClosesRead = false
 is_built_op ops.Attribs = false
@@ -41,13 +37,13 @@ is_built (steps.Mount fs path) = true
 is_built (steps.Umount path) = true
 is_built (steps.Limit entries) = false
 is_built (steps.Init flags) = not (has_any unbuilt_init_flags flags)
-is_built (steps.Mark group flags mask path) = not (has_any unbuilt_mark_flags flags)
+is_built (steps.Mark group flags mask path) = true
 is_built (steps.Begin access pid tid op path second) = is_built_op op
 is_built (steps.Advance access) = true
 is_built (steps.Read group size) = true
 is_built (steps.Write group bytes) = true
 is_built (steps.Close group) = true
-is_built steps.Grace = false
+is_built steps.Grace = true
 
 -- the lines whose step is built
 abbrev pub IsBuilt : Line → Type 0

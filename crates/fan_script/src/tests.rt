@@ -143,7 +143,7 @@ const OPS: [(&str, OpWord); 12] = [
 ];
 
 // A line, and whether its step is built.
-const BUILT: [(&str, bool); 20] = [
+const BUILT: [(&str, bool); 21] = [
     ("mkfile /a", true),
     ("mkfs", true),
     ("limit 1", false),
@@ -154,16 +154,17 @@ const BUILT: [(&str, bool); 20] = [
     ("init 800", false),
     ("mark 1 0 0 /a", true),
     ("mark 1 ffffff1d 0 /a", true),
-    ("mark 1 2 0 /a", false),
-    ("mark 1 20 0 /a", false),
-    ("mark 1 40 0 /a", false),
-    ("mark 1 80 0 /a", false),
+    ("mark 1 2 0 /a", true),
+    ("mark 1 20 0 /a", true),
+    ("mark 1 40 0 /a", true),
+    ("mark 1 80 0 /a", true),
     ("begin 1 1 1 open /a", true),
+    ("begin 1 1 1 write /a", true),
     ("begin 1 1 1 exec /a", false),
     ("begin 1 1 1 rename /a /b", false),
     ("step 1", true),
     ("close 1", true),
-    ("grace", false),
+    ("grace", true),
 ];
 
 // Whether the bytes are read as a step, with these numbers and this path or response.
