@@ -188,13 +188,13 @@ open_from (Some found) listener is =
       open_if true found listener is = cc
       open_if false found listener is = is
 
-bounded_closed_at : (steps group : ℕ) (found : Option ListenerState) (listeners : List ListenerState) (marks : List Mark) → ((listener : ListenerState) → found ≡ Some listener → IsBounded steps listener) → AreBounded steps listeners → AreBounded (steps + 1) (closed_at found listeners marks group).1
-bounded_closed_at steps group None listeners marks at bounded = bounded_later steps listeners bounded
-bounded_closed_at steps group (Some listener) listeners marks at bounded =
+bounded_closed_at : (steps group : ℕ) (found : Option ListenerState) (listeners : List ListenerState) (marks : List Mark) (last : ℕ) → ((listener : ListenerState) → found ≡ Some listener → IsBounded steps listener) → AreBounded steps listeners → AreBounded (steps + 1) (closed_at found listeners marks last group).1
+bounded_closed_at steps group None listeners marks last at bounded = bounded_later steps listeners bounded
+bounded_closed_at steps group (Some listener) listeners marks last at bounded =
     bounded_call steps group listeners listener (closed_of listener) bounded (at listener refl) (makes_less listener _ (makes-closed_of listener))
 
 -- a close calls one listener at most
-pub bounded_close : (steps group : ℕ) (listeners : List ListenerState) (marks : List Mark) → AreBounded steps listeners → AreBounded (steps + 1) (closed_group listeners marks group).1
+pub bounded_close : (steps group : ℕ) (listeners : List ListenerState) (marks : List Mark) (last : ℕ) → AreBounded steps listeners → AreBounded (steps + 1) (closed_group listeners marks last group).1
 unfolding closed_group
-bounded_close steps group listeners marks bounded =
-    bounded_closed_at steps group (open_listener listeners group) listeners marks (λ listener here. bounded_listener steps group listeners listener bounded (open_from (listener_at listeners group) listener here)) bounded
+bounded_close steps group listeners marks last bounded =
+    bounded_closed_at steps group (open_listener listeners group) listeners marks last (λ listener here. bounded_listener steps group listeners listener bounded (open_from (listener_at listeners group) listener here)) bounded

@@ -1,5 +1,5 @@
 -- What holds of the machine holds after each step, over plain values.
-use Rattle.std.proofs.Common.{◌≡◌, ℕ, ◌+◌, List, None, ap}
+use Rattle.std.proofs.Common.{◌≡◌, ℕ, ◌+◌, List, Option, None, ap}
 use Rattle.fan_bits.specs.declared.mark.Mark.{Mark}
 use Rattle.fan_bits.specs.Marks.{IsMarkList}
 use Rattle.fan_listener.specs.ListenerState.{ListenerState}
@@ -9,37 +9,52 @@ use Rattle.fan_script.specs.declared.step.OpWord.{OpWord}
 use Rattle.fan_script.specs.declared.step.Step.TheVariants as steps
 use Rattle.fan_tree.specs.Tree.{TreeState}
 use Rattle.fan_world.specs.declared.access.Opening.{Opening}
+use Rattle.fan_world.specs.declared.batches.Retired.{Retired}
 use Rattle.fan_world.specs.Accesses.{AccessState}
+use Rattle.fan_world.specs.Asks.{marks_seen}
+use Rattle.fan_world.specs.Batches.{RetirementState}
 use Rattle.fan_world.specs.Bounds.{IsKept}
 use Rattle.fan_world.specs.Marking.{marked}
+use Rattle.fan_world.specs.Sound.{AreSound, FindFew}
 use Rattle.fan_world.specs.Tree.{unmounted_at}
-use Rattle.fan_world.specs.World.{WorldState, next, advanced, begun_by, closed_group, grouped, read_from, written_to}
+use Rattle.fan_world.specs.World.{Begun, WorldState, next, advanced, begun_by, closed_group, grouped, read_from, written_to}
 use Rattle.fan_world.proofs.Bounded.{bounded_later, bounded_group, bounded_advance, bounded_read, bounded_write, bounded_close}
-use Rattle.fan_world.proofs.Sound.{sound_next}
+use Rattle.fan_world.proofs.Sound.{few_beginning, sound_next}
+use Rattle.fan_world.proofs.Standing.{stand_seen}
+
+-- an access that begins by the marks of a sound state has few groups to ask or to tell
+pub find_few : (groups : List (Option ℕ)) (marks : List Mark) → AreSound groups marks → FindFew marks
+find_few groups marks sound opening deed place =
+    let seen : AreSound groups (marks_seen deed marks place) =
+    record { few = sound.few; each = stand_seen groups deed marks place sound.each } in
+    few_beginning groups opening deed place (marks_seen deed marks place) seen
 
 module _ (count : ℕ) (world : WorldState) (kept : IsKept count world) where
-  -- a step of the tree and its mounts
-  pub kept_tree : (tree : TreeState) (mounts : List Mount) → IsKept (count + 1) (record world { tree = tree; mounts = mounts })
-  kept_tree tree mounts = record {
+  -- a step of the tree and its mounts, or of what is retired
+  pub kept_tree : (tree : TreeState) (mounts : List Mount) (retirement : RetirementState)
+      → IsKept (count + 1) (record world { tree = tree; mounts = mounts; retirement = retirement })
+  kept_tree tree mounts retirement = record {
     listeners = bounded_later count world.listeners kept.listeners;
     marks = kept.marks;
     sound = record { marked_well = kept.sound.marked_well; accesses_few = kept.sound.accesses_few };
   }
 
   -- `umount`
-  pub kept_umount : (path : List ℕ) (reply : Reply) (mounts : List Mount) (marks : List Mark)
-      → (reply, mounts, marks) ≡ unmounted_at world.tree world.mounts world.marks world.accesses path
-      → IsMarkList marks → IsKept (count + 1) (record world { mounts = mounts; marks = marks })
+  pub kept_umount : (path : List ℕ) (reply : Reply) (mounts : List Mount) (marks : List Mark) (gone : List Retired)
+      (retirement : RetirementState)
+      → (reply, mounts, marks, gone)
+      ≡ unmounted_at world.tree world.mounts world.marks world.accesses world.last_access path
+      → IsMarkList marks
+      → IsKept (count + 1) (record world { mounts = mounts; marks = marks; retirement = retirement })
   unfolding next
-  kept_umount path reply mounts marks is whole =
-      let all = unmounted_at world.tree world.mounts world.marks world.accesses path in
-      let mounts_are : mounts ≡ all.1 = ap (λ (r : Reply × List Mount × List Mark). r.1) is in
-      let marks_are : marks ≡ all.2 = ap (λ (r : Reply × List Mount × List Mark). r.2) is in
+  kept_umount path reply mounts marks gone retirement is whole =
+      let all = unmounted_at world.tree world.mounts world.marks world.accesses world.last_access path in
+      let marks_are : marks ≡ all.2 = ap (λ (r : Reply × List Mount × List Mark × List Retired). r.2) is in
       let sound = sound_next world (steps.Umount path) kept.sound in
       record {
         listeners = bounded_later count world.listeners kept.listeners;
         marks = whole;
-        sound = rw (mounts_are, marks_are) sound;
+        sound = record { marked_well = rw marks_are sound.marked_well; accesses_few = kept.sound.accesses_few };
       }
 
   -- `init`
@@ -56,33 +71,43 @@ module _ (count : ℕ) (world : WorldState) (kept : IsKept count world) where
       }
 
   -- `mark`
-  pub kept_mark : (group flags mask : ℕ) (path : List ℕ) (reply : Reply) (marks : List Mark)
-      → (reply, marks) ≡ marked world.listeners world.tree world.mounts world.marks group flags mask path
-      → IsMarkList marks → IsKept (count + 1) (record world { marks = marks })
+  pub kept_mark : (group flags mask : ℕ) (path : List ℕ) (reply : Reply) (marks : List Mark) (gone : List Retired)
+      (retirement : RetirementState)
+      → (reply, marks, gone)
+      ≡ marked world.listeners world.tree world.mounts world.marks world.last_access group flags mask path
+      → IsMarkList marks → IsKept (count + 1) (record world { marks = marks; retirement = retirement })
   unfolding next
-  kept_mark group flags mask path reply marks is whole =
-      let all = marked world.listeners world.tree world.mounts world.marks group flags mask path in
-      let are : marks ≡ all.1 = ap (λ (r : Reply × List Mark). r.1) is in
+  kept_mark group flags mask path reply marks gone retirement is whole =
+      let all =
+      marked world.listeners world.tree world.mounts world.marks world.last_access group flags mask path in
+      let are : marks ≡ all.1 = ap (λ (r : Reply × List Mark × List Retired). r.1) is in
       let sound = sound_next world (steps.Mark group flags mask path) kept.sound in
       record {
         listeners = bounded_later count world.listeners kept.listeners;
         marks = whole;
-        sound = rw are sound;
+        sound = record { marked_well = rw are sound.marked_well; accesses_few = kept.sound.accesses_few };
       }
 
   -- `begin`
-  pub kept_begin : (opening : Opening) (op : OpWord) (path : List ℕ) (reply : Reply) (accesses : List AccessState) (last : ℕ)
-      → (reply, accesses, last) ≡ begun_by op world.tree world.mounts world.marks world.accesses world.last_access opening path
-      → IsKept (count + 1) (record world { accesses = accesses; last_access = last })
+  pub kept_begin : (opening : Opening) (op : OpWord) (path : List ℕ) (reply : Reply) (begun : Begun)
+      (retirement : RetirementState)
+      → (reply, begun) ≡ begun_by op world.tree world.mounts world.marks world.accesses world.last_access opening path
+      → IsMarkList begun.marks
+      → IsKept (count + 1) (record world {
+        marks = begun.marks;
+        retirement = retirement;
+        accesses = begun.accesses;
+        last_access = begun.last;
+      })
   unfolding next
-  kept_begin opening op path reply accesses last is =
+  kept_begin opening op path reply begun retirement is whole =
       let all = begun_by op world.tree world.mounts world.marks world.accesses world.last_access opening path in
-      let accesses_are : accesses ≡ all.1 = ap (λ (r : Reply × List AccessState × ℕ). r.1) is in
+      let are : begun ≡ all.1 = ap (λ (r : Reply × Begun). r.1) is in
       let sound = sound_next world (steps.Begin opening.number opening.pid opening.tid op path None) kept.sound in
       record {
         listeners = bounded_later count world.listeners kept.listeners;
-        marks = kept.marks;
-        sound = record { marked_well = kept.sound.marked_well; accesses_few = rw accesses_are sound.accesses_few };
+        marks = whole;
+        sound = record { marked_well = rw are sound.marked_well; accesses_few = rw are sound.accesses_few };
       }
 
   -- `step`
@@ -129,16 +154,23 @@ module _ (count : ℕ) (world : WorldState) (kept : IsKept count world) where
 
   -- `close`
   pub kept_close : (group : ℕ) (reply : Reply) (listeners : List ListenerState) (marks : List Mark)
-      → (reply, listeners, marks) ≡ closed_group world.listeners world.marks group → IsMarkList marks
-      → IsKept (count + 1) (record world { listeners = listeners; marks = marks })
+      (gone : List Retired) (retirement : RetirementState)
+      → (reply, listeners, marks, gone) ≡ closed_group world.listeners world.marks world.last_access group
+      → IsMarkList marks
+      → IsKept (count + 1) (record world { listeners = listeners; marks = marks; retirement = retirement })
   unfolding next
-  kept_close group reply listeners marks is whole =
-      let all = closed_group world.listeners world.marks group in
-      let listeners_are : listeners ≡ all.1 = ap (λ (r : Reply × List ListenerState × List Mark). r.1) is in
-      let marks_are : marks ≡ all.2 = ap (λ (r : Reply × List ListenerState × List Mark). r.2) is in
+  kept_close group reply listeners marks gone retirement is whole =
+      let all = closed_group world.listeners world.marks world.last_access group in
+      let listeners_are : listeners ≡ all.1 =
+      ap (λ (r : Reply × List ListenerState × List Mark × List Retired). r.1) is in
+      let marks_are : marks ≡ all.2 =
+      ap (λ (r : Reply × List ListenerState × List Mark × List Retired). r.2) is in
       let sound = sound_next world (steps.Close group) kept.sound in
       record {
-        listeners = rw listeners_are (bounded_close _ _ _ _ kept.listeners);
+        listeners = rw listeners_are (bounded_close _ _ _ _ _ kept.listeners);
         marks = whole;
-        sound = rw (listeners_are, marks_are) sound;
+        sound = record {
+          marked_well = rw (listeners_are, marks_are) sound.marked_well;
+          accesses_few = kept.sound.accesses_few;
+        };
       }

@@ -1,11 +1,15 @@
 pub mod Ahead
 pub mod Asked
+pub mod Begins
 pub mod Bounded
 pub mod CauseLemmas
-pub mod OpenAccess
+pub mod Counting
+pub mod Freed
 pub mod Kept
+pub mod OpenAccess
 pub mod Opens
 pub mod Passing
+pub mod Reclaimed
 pub mod RunsEnd
 pub mod Sound
 pub mod Standing

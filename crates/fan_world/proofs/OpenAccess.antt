@@ -1,6 +1,6 @@
 -- The open accesses of one number: there is one at most, and only its own steps change it.
-use Rattle.std.proofs.Common.{◌≡◌, ◌∙◌, ℕ, ◌<◌, ◌≤◌, Bool, true, false, cond, ltb, eqb, List, [], ◌∷◌, ◌++◌, Option, Some, None, Result, Ok, Err, refl, sym, ap, arith}
-use Rattle.std.proofs.lemmas.Bool.{eqb-true, eqb-false, ne_eqb, eq-eqb, ltb-true}
+use Rattle.std.proofs.Common.{◌≡◌, ◌∙◌, ℕ, ◌<◌, ◌≤◌, true, false, eqb, List, [], ◌∷◌, ◌++◌, Option, Some, None, Ok, refl, sym, ap, arith}
+use Rattle.std.proofs.lemmas.Bool.{eqb-true, eqb-false, ne_eqb, eq-eqb}
 use Rattle.std.proofs.lemmas.List.{append-nil}
 use Rattle.std.proofs.lemmas.List.Elements.{filter-append}
 use Rattle.std.specs.Prelude.{filter, find, slice_get}
@@ -10,21 +10,22 @@ use Rattle.fan_listener.specs.declared.answers.Answer.TheVariants as answers
 use Rattle.fan_listener.specs.declared.queue.Put.{Put}
 use Rattle.fan_listener.specs.declared.queue.Put.TheVariants as puts
 use Rattle.fan_listener.specs.ListenerState.{ListenerState}
+use Rattle.fan_world.specs.declared.access.Deed.{Deed}
 use Rattle.fan_world.specs.declared.access.Opening.{Opening}
 use Rattle.fan_world.specs.declared.access.WaitingFor.{WaitingFor}
 use Rattle.fan_bits.specs.declared.mark.Mark.{Mark}
-use Rattle.fan_bits.specs.declared.errno.Errno.{Errno}
 use Rattle.fan_bits.specs.declared.place.Place.{Place}
 use Rattle.fan_script.specs.declared.reply.Reply.{Reply}
 use Rattle.fan_script.specs.declared.reply.Reply.TheVariants as replies
 use Rattle.fan_world.specs.Accesses.{AccessState, asks, tells, access_step, step_by, looked, asked_next, told_next, after_answer, after_ask, answer_from, put_to, asked_event, beginning, has_number}
 use Rattle.fan_mounts.specs.declared.mount.Mount.{Mount}
 use Rattle.fan_mounts.specs.Reaches.{place_of}
-use Rattle.fan_script.specs.Built.{is_built_op}
 use Rattle.fan_script.specs.declared.step.OpWord.{OpWord}
 use Rattle.fan_tree.specs.Tree.{TreeState}
-use Rattle.fan_world.specs.World.{after_step, advanced_at, advanced, begun_at, begun, begun_by}
-use Rattle.fan_world.proofs.Passing.{either, find-filter, find_passes, filter-change_first_other, filter-without_first_other}
+use Rattle.fan_world.specs.Asks.{marks_seen}
+use Rattle.fan_world.specs.World.{Begun, after_step, advanced_at, advanced, begins, begun_by, deed_of}
+use Rattle.fan_world.proofs.Begins.{begun_cases}
+use Rattle.fan_world.proofs.Passing.{find-filter, find_passes, filter-change_first_other, filter-without_first_other}
 
 -- an access that stays open has the number that it had
 abbrev pub KeepsNumber : AccessState → Option AccessState → Type 0
@@ -129,53 +130,30 @@ advanced_keeps_none listeners accesses number other none =
       | false ↦ λ differ. advanced_other listeners accesses number other differ ∙ none
     ]) refl
 
--- a begin is refused, or it is tried with a number above all before it
-pub begun_cases : (P : Reply × List AccessState × ℕ → Type 0) (op : OpWord) (tree : TreeState)
-    (mounts : List Mount)
-    (marks : List Mark) (accesses : List AccessState) (last : ℕ) (opening : Opening) (path : List ℕ)
-    → ((refusal : Errno) → P (replies.Refused refusal, accesses, last))
-    → (last < opening.number → P (begun_at (place_of tree mounts path) marks accesses last opening))
-    → P (begun_by op tree mounts marks accesses last opening path)
-unfolding begun begun_by
-begun_cases P op tree mounts marks accesses last opening path refused tried =
-    let tried_one : Reply × List AccessState × ℕ =
-    begun_at (place_of tree mounts path) marks accesses last opening in
-    let taken : Reply × List AccessState × ℕ = (replies.Refused errno.Eexist, accesses, last) in
-    let unbuilt : Reply × List AccessState × ℕ = (replies.Refused errno.Einval, accesses, last) in
-    let above : Bool = ltb last opening.number in
-    either P (is_built_op op) (cond above tried_one taken) unbuilt
-    (λ built. either P above tried_one taken (λ is. tried (ltb-true last opening.number is))
-    (refused errno.Eexist))
-    (refused errno.Einval)
+-- the access that a begin begins, by the marks that it sees
+abbrev pub begun_access : Opening → Deed → Place → List Mark → AccessState
+begun_access opening deed place marks = beginning opening deed place (marks_seen deed marks place)
 
-begun_other_at : (at : Result Place Errno) (marks : List Mark) (accesses : List AccessState) (last number : ℕ)
-    (opening : Opening)
-    → eqb opening.number number ≡ false
-    → numbered number (begun_at at marks accesses last opening).1 ≡ numbered number accesses
-begun_other_at (Err refusal) marks accesses last number opening differ = refl
-begun_other_at (Ok place) marks accesses last number opening differ =
-    rw (filter-append (has_number number) accesses (beginning opening place marks ∷ []), differ)
+-- an access of another number that begins leaves those of this one
+numbered_more : (number : ℕ) (access : AccessState) (accesses : List AccessState)
+    → eqb access.number number ≡ false → numbered number (accesses ++ access ∷ []) ≡ numbered number accesses
+numbered_more number access accesses differ =
+    rw (filter-append (has_number number) accesses (access ∷ []), differ)
     (append-nil (numbered number accesses))
 
-begun_last_at : (at : Result Place Errno) (marks : List Mark) (accesses : List AccessState) (last : ℕ)
-    (opening : Opening)
-    → last < opening.number → last ≤ (begun_at at marks accesses last opening).2
-begun_last_at (Err refusal) marks accesses last opening above = omega arith
-begun_last_at (Ok place) marks accesses last opening above = omega arith
+-- what a begin leaves of the accesses and of the greatest number
+abbrev StandsAfter : ℕ → List AccessState → Reply × Begun → Type 0
+StandsAfter number found r = Stands number found r.1.accesses r.1.last
 
-stands_at : (at : Result Place Errno) (marks : List Mark) (accesses : List AccessState) (last : ℕ)
-    (opening : Opening) (number : ℕ) (found : List AccessState)
-    → last < opening.number → Stands number found accesses last
-    → Stands number found (begun_at at marks accesses last opening).1
-    (begun_at at marks accesses last opening).2
-stands_at at marks accesses last opening number found above stands =
+stands_with_more : (number : ℕ) (access : AccessState) (found accesses : List AccessState) (last : ℕ)
+    → last < access.number → Stands number found accesses last
+    → Stands number found (accesses ++ access ∷ []) access.number
+stands_with_more number access found accesses last above stands =
     let used : number ≤ last = stands.used in
-    let rises : last ≤ (begun_at at marks accesses last opening).2 =
-    begun_last_at at marks accesses last opening above in
     record {
       used = omega arith;
-      only = begun_other_at at marks accesses last number opening
-          (ne_eqb opening.number number (λ same. absurd (omega arith))) ∙ stands.only;
+      only = numbered_more number access accesses
+          (ne_eqb access.number number (λ same. absurd (omega arith))) ∙ stands.only;
     }
 
 -- a begin leaves the accesses of a number that is used
@@ -183,57 +161,68 @@ pub begun_stands : (op : OpWord) (tree : TreeState) (mounts : List Mount) (marks
     (accesses : List AccessState) (last : ℕ) (opening : Opening) (path : List ℕ) (number : ℕ)
     (found : List AccessState)
     → Stands number found accesses last →
-    let r = begun_by op tree mounts marks accesses last opening path in Stands number found r.1 r.2
+    let begun = (begun_by op tree mounts marks accesses last opening path).1 in
+    Stands number found begun.accesses begun.last
 begun_stands op tree mounts marks accesses last opening path number found stands =
-    begun_cases (λ r. Stands number found r.1 r.2) op tree mounts marks accesses last opening path
+    begun_cases (StandsAfter number found) op tree mounts marks accesses last opening path
     (λ refusal. stands)
-    (λ above. stands_at (place_of tree mounts path) marks accesses last opening number found above stands)
+    (λ deed place does here above.
+    stands_with_more number (begun_access opening deed place marks) found accesses last above stands)
 
 -- each number above the last is of no open access
 abbrev pub AreFresh : List AccessState → ℕ → Type 0
 AreFresh accesses last = (number : ℕ) → last < number → numbered number accesses ≡ []
 
-fresh_at : (at : Result Place Errno) (marks : List Mark) (accesses : List AccessState) (last : ℕ)
-    (opening : Opening)
-    → last < opening.number → AreFresh accesses last
-    → AreFresh (begun_at at marks accesses last opening).1 (begun_at at marks accesses last opening).2
-fresh_at (Err refusal) marks accesses last opening above fresh = fresh
-fresh_at (Ok place) marks accesses last opening above fresh = λ number later.
-    begun_other_at (Ok place) marks accesses last number opening
-    (ne_eqb opening.number number (λ same. absurd (omega arith)))
+fresh_more : (access : AccessState) (accesses : List AccessState) (last : ℕ) → last < access.number
+    → AreFresh accesses last → AreFresh (accesses ++ access ∷ []) access.number
+fresh_more access accesses last above fresh = λ number later.
+    numbered_more number access accesses (ne_eqb access.number number (λ same. absurd (omega arith)))
     ∙ fresh number (omega arith)
 
 -- a begin takes a fresh number
 pub begun_fresh : (op : OpWord) (tree : TreeState) (mounts : List Mount) (marks : List Mark)
     (accesses : List AccessState) (last : ℕ) (opening : Opening) (path : List ℕ)
     → AreFresh accesses last →
-    let r = begun_by op tree mounts marks accesses last opening path in AreFresh r.1 r.2
+    let begun = (begun_by op tree mounts marks accesses last opening path).1 in
+    AreFresh begun.accesses begun.last
 begun_fresh op tree mounts marks accesses last opening path fresh =
-    begun_cases (λ r. AreFresh r.1 r.2) op tree mounts marks accesses last opening path (λ refusal. fresh)
-    (λ above. fresh_at (place_of tree mounts path) marks accesses last opening above fresh)
+    begun_cases (λ r. AreFresh r.1.accesses r.1.last) op tree mounts marks accesses last opening path
+    (λ refusal. fresh)
+    (λ deed place does here above.
+    fresh_more (begun_access opening deed place marks) accesses last above fresh)
 
-opened_one : (opening : Opening) (place : Place) (marks : List Mark) (accesses : List AccessState)
-    → numbered opening.number accesses ≡ []
-    → Stands opening.number (beginning opening place marks ∷ [])
-    (accesses ++ beginning opening place marks ∷ []) opening.number
-opened_one opening place marks accesses none = record {
+begun_one : (access : AccessState) (accesses : List AccessState) → numbered access.number accesses ≡ []
+    → Stands access.number (access ∷ []) (accesses ++ access ∷ []) access.number
+begun_one access accesses none = record {
   used = omega arith;
   only = rw (
-    filter-append (has_number opening.number) accesses
-        (beginning opening place marks ∷ []),
+    filter-append (has_number access.number) accesses (access ∷ []),
     none,
-    eq-eqb opening.number opening.number refl,
+    eq-eqb access.number access.number refl,
   ) refl;
 }
 
--- the access that a begin opens is the only one with its number
+one_begins : (deed other : Deed) (place there : Place) (marks : List Mark) (accesses : List AccessState)
+    (opening : Opening)
+    → other ≡ deed → there ≡ place → numbered opening.number accesses ≡ []
+    → StandsAfter opening.number (begun_access opening deed place marks ∷ [])
+    (begins other there marks accesses opening)
+one_begins deed other place there marks accesses opening same here none =
+    rw (same, here) (begun_one (begun_access opening deed place marks) accesses none)
+
+-- the access that a begin begins is the only one with its number
 pub begun_opens : (op : OpWord) (tree : TreeState) (mounts : List Mount) (marks : List Mark)
-    (accesses : List AccessState) (last : ℕ) (opening : Opening) (path : List ℕ) (place : Place)
-    → AreFresh accesses last → place_of tree mounts path ≡ Ok place →
+    (accesses : List AccessState) (last : ℕ) (opening : Opening) (path : List ℕ) (deed : Deed) (place : Place)
+    → AreFresh accesses last → deed_of op ≡ Some deed → place_of tree mounts path ≡ Ok place →
     let r = begun_by op tree mounts marks accesses last opening path in
-    r.0 ≡ replies.Done → Stands opening.number (beginning opening place marks ∷ []) r.1 r.2
-begun_opens op tree mounts marks accesses last opening path place fresh here =
-    begun_cases (λ r. r.0 ≡ replies.Done → Stands opening.number (beginning opening place marks ∷ []) r.1 r.2)
+    r.0 ≡ replies.Done
+    → Stands opening.number (begun_access opening deed place marks ∷ []) r.1.accesses r.1.last
+begun_opens op tree mounts marks accesses last opening path deed place fresh does here =
+    begun_cases (λ r. r.0 ≡ replies.Done
+    → StandsAfter opening.number (begun_access opening deed place marks ∷ []) r)
     op tree mounts marks accesses last opening path
     (λ refusal done. absurd (cc))
-    (λ above done. rw here (opened_one opening place marks accesses (fresh opening.number above)))
+    (λ other there is reaches above done.
+    let same : other ≡ deed = cc in
+    let at : there ≡ place = cc in
+    one_begins deed other place there marks accesses opening same at (fresh opening.number above))

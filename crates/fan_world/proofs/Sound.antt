@@ -7,7 +7,6 @@ use Rattle.std.proofs.lemmas.List.{map-append, map-set}
 use Rattle.std.proofs.lemmas.List.Elements.{All-filter, All-nil, All-push, All-weaker, filter_passes}
 use Rattle.std.proofs.lemmas.List.Sums.{sum_by-append}
 use Rattle.fan_bits.specs.declared.change.Change.TheVariants.{DropGroup}
-use Rattle.fan_bits.specs.declared.errno.Errno.{Errno}
 use Rattle.fan_bits.specs.declared.errno.Errno.TheVariants as errno
 use Rattle.fan_bits.specs.declared.mark.Mark.{Mark}
 use Rattle.fan_bits.specs.declared.place.Place.{Place}
@@ -33,40 +32,42 @@ use Rattle.fan_script.specs.declared.step.OpWord.{OpWord}
 use Rattle.fan_script.specs.declared.step.Step.{Step}
 use Rattle.fan_script.specs.declared.step.Step.TheVariants as steps
 use Rattle.fan_tree.specs.Tree.{TreeState}
+use Rattle.fan_world.specs.declared.access.Deed.{Deed}
+use Rattle.fan_world.specs.declared.access.Deed.TheVariants as deeds
 use Rattle.fan_world.specs.declared.access.Opening.{Opening}
 use Rattle.fan_world.specs.declared.access.WaitingFor.{WaitingFor}
 use Rattle.fan_world.specs.Accesses.{AccessState, asks, tells, beginning, listener_at, with_listener, put_at, put_to, answer_at, answer_from, asked_event, told_event, after_ask, after_answer, looked, asked_next, told_next, step_by, access_step, has_number}
-use Rattle.fan_world.specs.Asks.{opening_at, open_bit, open_perm_bit}
+use Rattle.fan_world.specs.Asks.{asked_groups, happening_at, marks_seen, open_perm_bit, told_bit}
 use Rattle.fan_world.specs.Marking.{marked, open_listener}
 use Rattle.fan_world.specs.Run.{after_steps}
 use Rattle.fan_world.specs.Sound.{opened, opens, Stands, AreSound, HasFew, IsSound}
 use Rattle.fan_world.specs.Tree.{unmounted_at}
-use Rattle.fan_world.specs.World.{WorldState, opening_world, next, grouped, is_open, most_groups, queue_limit, begun_at, begun_by, after_step, advanced, advanced_at, read_answer, read_at, read_from, write_answer, written_at, written_to, closed_at, closed_group}
+use Rattle.fan_world.specs.World.{Begun, WorldState, opening_world, next, grouped, is_open, most_groups, queue_limit, begins, begun_by, after_step, advanced, advanced_at, read_answer, read_at, read_from, write_answer, written_at, written_to, closed_at, closed_group}
 use Rattle.fan_world.proofs.Asked.{few_groups}
-use Rattle.fan_world.proofs.OpenAccess.{begun_cases}
+use Rattle.fan_world.proofs.Begins.{begun_cases}
 use Rattle.fan_world.proofs.Opens.{count_by-closed, count_by-opens, slice_get-set_other, slice_get-append, opens-with_listener, opened-put, opened-answer_of, opened-read_of, opened-written}
 use Rattle.fan_world.proofs.Passing.{either, All-change_first, All-find, All-without_first}
-use Rattle.fan_world.proofs.Standing.{IsOpenAt, open_at, leaves_for, leaves_unmounted}
+use Rattle.fan_world.proofs.Standing.{IsOpenAt, open_at, leaves_for, leaves_unmounted, stand_seen}
 
 -- marks are changed where their group is open
 sound_marked : (listeners : List ListenerState) (tree : TreeState) (mounts : List Mount) (marks : List Mark)
-    (group flags mask : ℕ) (path : List ℕ)
+    (last group flags mask : ℕ) (path : List ℕ)
     → AreSound (opens listeners) marks
-    → AreSound (opens listeners) (marked listeners tree mounts marks group flags mask path).1
+    → AreSound (opens listeners) (marked listeners tree mounts marks last group flags mask path).1
 unfolding marked
-sound_marked listeners tree mounts marks group flags mask path sound = record {
+sound_marked listeners tree mounts marks last group flags mask path sound = record {
   few = sound.few;
   each = leaves_for listeners (open_listener listeners group)
-      (place_of tree mounts path) marks group flags mask (open_at listeners group) sound.each;
+      (place_of tree mounts path) marks group flags mask last (open_at listeners group) sound.each;
 }
 
 -- the marks on a mount go with it
 sound_unmounted : (groups : List (Option ℕ)) (tree : TreeState) (mounts : List Mount) (marks : List Mark)
-    (accesses : List AccessState) (path : List ℕ)
-    → AreSound groups marks → AreSound groups (unmounted_at tree mounts marks accesses path).2
+    (accesses : List AccessState) (last : ℕ) (path : List ℕ)
+    → AreSound groups marks → AreSound groups (unmounted_at tree mounts marks accesses last path).2
 unfolding unmounted_at
-sound_unmounted groups tree mounts marks accesses path sound =
-    let each = leaves_unmounted groups (place_of tree mounts path) mounts marks accesses sound.each in
+sound_unmounted groups tree mounts marks accesses last path sound =
+    let each = leaves_unmounted groups (place_of tree mounts path) mounts marks accesses last sound.each in
     record { few = sound.few; each = each }
 
 one_more : (listeners : List ListenerState) (flags : ℕ) → count_by is_open listeners < most_groups
@@ -151,22 +152,23 @@ sound_without groups marks group above sound =
     }
 
 sound_closed_at : (found : Option ListenerState) (listeners : List ListenerState) (marks : List Mark)
-    (group : ℕ)
+    (last group : ℕ)
     → ((listener : ListenerState) → found ≡ Some listener → IsOpenAt listeners group listener)
     → AreSound (opens listeners) marks
-    → AreSound (opens (closed_at found listeners marks group).1) (closed_at found listeners marks group).2
-sound_closed_at None listeners marks group at sound = sound
-sound_closed_at (Some listener) listeners marks group at sound =
+    → AreSound (opens (closed_at found listeners marks last group).1)
+    (closed_at found listeners marks last group).2
+sound_closed_at None listeners marks last group at sound = sound
+sound_closed_at (Some listener) listeners marks last group at sound =
     subst (λ groups. AreSound groups (changed marks (DropGroup group)))
     (sym (opens-closed listeners group listener))
     (sound_without (opens listeners) marks group (at listener refl).above sound)
 
-sound_closed : (listeners : List ListenerState) (marks : List Mark) (group : ℕ)
+sound_closed : (listeners : List ListenerState) (marks : List Mark) (last group : ℕ)
     → AreSound (opens listeners) marks
-    → AreSound (opens (closed_group listeners marks group).1) (closed_group listeners marks group).2
+    → AreSound (opens (closed_group listeners marks last group).1) (closed_group listeners marks last group).2
 unfolding closed_group
-sound_closed listeners marks group sound =
-    sound_closed_at (open_listener listeners group) listeners marks group (open_at listeners group) sound
+sound_closed listeners marks last group sound =
+    sound_closed_at (open_listener listeners group) listeners marks last group (open_at listeners group) sound
 
 opens-read_answer : (read : Result (List ℕ × ListenerState) ReadRefused) (listeners : List ListenerState)
     (group : ℕ) (listener : ListenerState)
@@ -327,23 +329,48 @@ few_advanced listeners accesses number each =
     few_advanced_at (find (has_number number) accesses) listeners accesses number
     (λ access found. All-find HasFew (has_number number) accesses access each found) each
 
-few_begun_at : (groups : List (Option ℕ)) (at : Result Place Errno) (marks : List Mark)
-    (accesses : List AccessState) (last : ℕ) (opening : Opening)
-    → AreSound groups marks → All HasFew accesses → All HasFew (begun_at at marks accesses last opening).1
-few_begun_at groups (Err refusal) marks accesses last opening sound each = each
-few_begun_at groups (Ok place) marks accesses last opening sound each =
-    All-push HasFew accesses (beginning opening place marks) each (record {
-      few_asks = few_groups groups marks (opening_at place open_perm_bit) sound;
-      few_tells = few_groups groups marks (opening_at place open_bit) sound;
-    })
+few_asked : (groups : List (Option ℕ)) (deed : Deed) (marks : List Mark) (place : Place)
+    → AreSound groups marks → length (asked_groups deed marks place) ≤ most_groups
+few_asked groups deeds.Opens marks place sound =
+    few_groups groups marks (happening_at place open_perm_bit) sound
+few_asked groups deeds.Writes marks place sound = omega arith
 
-few_begun : (groups : List (Option ℕ)) (op : OpWord) (tree : TreeState) (mounts : List Mount)
+-- an access begins with few groups to ask or to tell
+pub few_beginning : (groups : List (Option ℕ)) (opening : Opening) (deed : Deed) (place : Place)
+    (marks : List Mark)
+    → AreSound groups marks → HasFew (beginning opening deed place marks)
+few_beginning groups opening deed place marks sound = record {
+  few_asks = few_asked groups deed marks place sound;
+  few_tells = few_groups groups marks (happening_at place (told_bit deed)) sound;
+}
+
+-- the marks and the accesses after a begin
+record AreSoundAfter (groups : List (Option ℕ)) (begun : Begun) : Type 0 where
+  marked_well : AreSound groups begun.marks
+  accesses_few : All HasFew begun.accesses
+
+sound_begins : (groups : List (Option ℕ)) (deed : Deed) (place : Place) (marks : List Mark)
+    (accesses : List AccessState) (opening : Opening) → AreSound groups marks → All HasFew accesses
+    → AreSoundAfter groups (begins deed place marks accesses opening).1
+sound_begins groups deed place marks accesses opening sound each =
+    let seen = marks_seen deed marks place in
+    let sound_seen : AreSound groups seen =
+    record { few = sound.few; each = stand_seen groups deed marks place sound.each } in
+    record {
+      marked_well = sound_seen;
+      accesses_few = All-push HasFew accesses (beginning opening deed place seen) each
+          (few_beginning groups opening deed place seen sound_seen);
+    }
+
+-- a begin, of a write with its clearing
+sound_begun : (groups : List (Option ℕ)) (op : OpWord) (tree : TreeState) (mounts : List Mount)
     (marks : List Mark) (accesses : List AccessState) (last : ℕ) (opening : Opening) (path : List ℕ)
     → AreSound groups marks → All HasFew accesses
-    → All HasFew (begun_by op tree mounts marks accesses last opening path).1
-few_begun groups op tree mounts marks accesses last opening path sound each =
-    begun_cases (λ r. All HasFew r.1) op tree mounts marks accesses last opening path (λ refusal. each)
-    (λ above. few_begun_at groups (place_of tree mounts path) marks accesses last opening sound each)
+    → AreSoundAfter groups (begun_by op tree mounts marks accesses last opening path).1
+sound_begun groups op tree mounts marks accesses last opening path sound each =
+    begun_cases (λ r. AreSoundAfter groups r.1) op tree mounts marks accesses last opening path
+    (λ refusal. record { marked_well = sound; accesses_few = each })
+    (λ deed place does here above. sound_begins groups deed place marks accesses opening sound each)
 
 same_opens : (before after : List (Option ℕ)) (marks : List Mark) → after ≡ before → AreSound before marks
     → AreSound after marks
@@ -354,7 +381,8 @@ pub sound_next : (world : WorldState) (step : Step) → IsSound world → IsSoun
 unfolding next
 sound_next world (steps.Umount path) sound = record {
   marked_well = sound_unmounted
-      (opens world.listeners) world.tree world.mounts world.marks world.accesses path sound.marked_well;
+      (opens world.listeners) world.tree world.mounts world.marks world.accesses
+      world.last_access path sound.marked_well;
   accesses_few = sound.accesses_few;
 }
 sound_next world (steps.Init flags) sound =
@@ -364,15 +392,15 @@ sound_next world (steps.Init flags) sound =
           sound.accesses_few;
     }
 sound_next world (steps.Mark group flags mask path) sound = record {
-  marked_well = sound_marked world.listeners world.tree world.mounts world.marks group flags mask path
-      sound.marked_well;
+  marked_well = sound_marked world.listeners world.tree world.mounts world.marks world.last_access group flags
+      mask path sound.marked_well;
   accesses_few = sound.accesses_few;
 }
-sound_next world (steps.Begin access pid tid op path second) sound = record {
-  marked_well = sound.marked_well;
-  accesses_few = few_begun (opens world.listeners) op world.tree world.mounts world.marks world.accesses
-      world.last_access _ path sound.marked_well sound.accesses_few;
-}
+sound_next world (steps.Begin access pid tid op path second) sound =
+    let begun = sound_begun (opens world.listeners) op world.tree world.mounts world.marks world.accesses
+    world.last_access (record { number = access; pid = pid; tid = tid }) path
+    sound.marked_well sound.accesses_few in
+    record { marked_well = begun.marked_well; accesses_few = begun.accesses_few }
 sound_next world (steps.Advance access) sound = record {
   marked_well = same_opens _ _ world.marks
       (opens-advanced world.listeners world.accesses access) sound.marked_well;
@@ -388,7 +416,7 @@ sound_next world (steps.Write group bytes) sound = record {
 }
 sound_next world (steps.Close group) sound =
     record {
-      marked_well = sound_closed world.listeners world.marks group sound.marked_well;
+      marked_well = sound_closed world.listeners world.marks world.last_access group sound.marked_well;
       accesses_few =
           sound.accesses_few;
     }

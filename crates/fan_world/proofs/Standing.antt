@@ -26,7 +26,12 @@ use Rattle.fan_mounts.specs.declared.mount.Mount.{Mount}
 use Rattle.fan_mounts.specs.Mounts.{unmounted}
 use Rattle.fan_script.specs.declared.reply.Reply.{Reply}
 use Rattle.fan_script.specs.declared.reply.Reply.TheVariants as replies
+use Rattle.fan_world.specs.declared.access.Deed.{Deed}
+use Rattle.fan_world.specs.declared.access.Deed.TheVariants as deeds
+use Rattle.fan_world.specs.declared.batches.Retired.{Retired}
 use Rattle.fan_world.specs.Accesses.{AccessState, listener_at}
+use Rattle.fan_world.specs.Asks.{marks_seen}
+use Rattle.fan_world.specs.Batches.{retired_by}
 use Rattle.fan_world.specs.Marking.{change_reply, if_open, is_flush, marked_by, marked_for, open_listener, put_at as put_mark_at, put_on_place}
 use Rattle.fan_world.specs.Sound.{opened, opens, IsOpenAs, Stands}
 use Rattle.fan_world.specs.Tree.{goes_through, umount_reply, unmounted_on}
@@ -110,38 +115,46 @@ stand_changed groups marks (DropGroup group) here each =
 stand_changed groups marks (DropObject object) here each =
     All-filter (λ mark. not (mark.object == object)) (Stands groups) marks each
 
+-- a write's clearing leaves marks of open groups
+pub stand_seen : (groups : List (Option ℕ)) (deed : Deed) (marks : List Mark) (place : Place)
+    → All (Stands groups) marks → All (Stands groups) (marks_seen deed marks place)
+stand_seen groups deeds.Opens marks place each = each
+stand_seen groups deeds.Writes marks place each = stand_changed groups marks (Clear place.inode) tt each
+
 -- a reply to a step that changes marks: they stay of open groups
-abbrev Leaves : List (Option ℕ) → Reply × List Mark → Type 0
+abbrev Leaves : List (Option ℕ) → Reply × List Mark × List Retired → Type 0
 Leaves groups r = All (Stands groups) r.1
 
 leaves_change : (groups : List (Option ℕ)) (refusal : Option MarkRefused) (marks : List Mark)
-    (change : Change)
-    → IsOfOpen groups change → All (Stands groups) marks → Leaves groups (change_reply refusal marks change)
-leaves_change groups None marks change here each = stand_changed groups marks change here each
-leaves_change groups (Some refusal) marks change here each = each
+    (change : Change) (last : ℕ)
+    → IsOfOpen groups change → All (Stands groups) marks
+    → Leaves groups (change_reply refusal marks change last)
+leaves_change groups None marks change last here each = stand_changed groups marks change here each
+leaves_change groups (Some refusal) marks change last here each = each
 
 leaves_put : (groups : List (Option ℕ)) (place : Result Place Errno) (marks : List Mark)
-    (listener : ListenerState) (group : ℕ) (words : MarkWords)
+    (listener : ListenerState) (group : ℕ) (words : MarkWords) (last : ℕ)
     → IsOpenAs groups group (class_of listener.flags) → All (Stands groups) marks
-    → Leaves groups (put_on_place place marks listener group words)
-leaves_put groups (Err refusal) marks listener group words here each = each
-leaves_put groups (Ok place) marks listener group words here each =
+    → Leaves groups (put_on_place place marks listener group words last)
+leaves_put groups (Err refusal) marks listener group words last here each = each
+leaves_put groups (Ok place) marks listener group words last here each =
     let object = object_of words.kind place in
     let change : Change = Put group (class_of listener.flags) words object in
-    either (Leaves groups) (words.only_dir && not place.dir) (replies.Refused errno.Enotdir, marks)
-    (put_mark_at marks listener group words object) (λ _. each)
-    (leaves_change groups (refusal_of marks change (occurs listener.flags unlimited_marks)) marks change here
-    each)
+    either (Leaves groups) (words.only_dir && not place.dir) (replies.Refused errno.Enotdir, marks, [])
+    (put_mark_at marks listener group words object last) (λ _. each)
+    (leaves_change groups (refusal_of marks change (occurs listener.flags unlimited_marks)) marks change last
+    here each)
 
 leaves_by : (groups : List (Option ℕ)) (place : Result Place Errno) (marks : List Mark)
-    (listener : ListenerState) (group : ℕ) (words : MarkWords)
+    (listener : ListenerState) (group : ℕ) (words : MarkWords) (last : ℕ)
     → IsOpenAs groups group (class_of listener.flags) → All (Stands groups) marks
-    → Leaves groups (marked_by place marks listener group words)
-leaves_by groups place marks listener group words here each =
-    either (Leaves groups) (is_flush words.verb) (replies.Done, changed marks (Flush group words.kind))
-    (put_on_place place marks listener group words)
+    → Leaves groups (marked_by place marks listener group words last)
+leaves_by groups place marks listener group words last here each =
+    either (Leaves groups) (is_flush words.verb)
+    (replies.Done, changed marks (Flush group words.kind), retired_by marks (Flush group words.kind) last)
+    (put_on_place place marks listener group words last)
     (λ _. stand_changed groups marks (Flush group words.kind) tt each)
-    (leaves_put groups place marks listener group words here each)
+    (leaves_put groups place marks listener group words last here each)
 
 -- an open listener at its place
 pub record IsOpenAt (listeners : List ListenerState) (group : ℕ) (listener : ListenerState) : Type 0 where
@@ -201,36 +214,39 @@ marks_have_class listeners marks group listener each is =
 
 -- a call leaves marks of open groups
 pub leaves_for : (listeners : List ListenerState) (found : Option ListenerState) (place : Result Place Errno)
-    (marks : List Mark) (group flags mask : ℕ)
+    (marks : List Mark) (group flags mask last : ℕ)
     → ((listener : ListenerState) → found ≡ Some listener → IsOpenAt listeners group listener)
     → All (Stands (opens listeners)) marks
-    → Leaves (opens listeners) (marked_for found place marks group flags mask)
-leaves_for listeners None place marks group flags mask at each = each
-leaves_for listeners (Some listener) place marks group flags mask at each =
+    → Leaves (opens listeners) (marked_for found place marks group flags mask last)
+leaves_for listeners None place marks group flags mask last at each = each
+leaves_for listeners (Some listener) place marks group flags mask last at each =
     let words = mark_words_of flags mask in
     either (Leaves (opens listeners)) (not (is_mark_call flags mask listener.flags))
-    (replies.Refused errno.Einval, marks) (marked_by place marks listener group words) (λ _. each)
-    (leaves_by (opens listeners) place marks listener group words
+    (replies.Refused errno.Einval, marks, []) (marked_by place marks listener group words last) (λ _. each)
+    (leaves_by (opens listeners) place marks listener group words last
     (open_as listeners group listener (at listener refl)) each)
 
 leaves_umount : (groups : List (Option ℕ)) (left : Result (List Mount) Errno) (mounts : List Mount)
-    (marks : List Mark) (mount : ℕ)
-    → All (Stands groups) marks → All (Stands groups) (umount_reply left mounts marks mount).2
-leaves_umount groups (Err refusal) mounts marks mount each = each
-leaves_umount groups (Ok left) mounts marks mount each = stand_changed groups marks (DropObject mount) tt each
+    (marks : List Mark) (mount last : ℕ)
+    → All (Stands groups) marks → All (Stands groups) (umount_reply left mounts marks mount last).2
+leaves_umount groups (Err refusal) mounts marks mount last each = each
+leaves_umount groups (Ok left) mounts marks mount last each =
+    stand_changed groups marks (DropObject mount) tt each
 
 -- and so does the removal of a mount
 pub leaves_unmounted : (groups : List (Option ℕ)) (place : Result Place Errno) (mounts : List Mount)
-    (marks : List Mark) (accesses : List AccessState)
-    → All (Stands groups) marks → All (Stands groups) (unmounted_on place mounts marks accesses).2
-leaves_unmounted groups (Err refusal) mounts marks accesses each = each
-leaves_unmounted groups (Ok place) mounts marks accesses each =
-    let P : Reply × List Mount × List Mark → Type 0 = λ r. All (Stands groups) r.2 in
-    let inner : Reply × List Mount × List Mark = (replies.Refused errno.Einval, mounts, marks) in
-    let busy : Reply × List Mount × List Mark = (replies.Refused errno.Ebusy, mounts, marks) in
-    let done : Reply × List Mount × List Mark =
-    umount_reply (unmounted mounts place.mount) mounts marks place.mount in
+    (marks : List Mark) (accesses : List AccessState) (last : ℕ)
+    → All (Stands groups) marks → All (Stands groups) (unmounted_on place mounts marks accesses last).2
+leaves_unmounted groups (Err refusal) mounts marks accesses last each = each
+leaves_unmounted groups (Ok place) mounts marks accesses last each =
+    let P : Reply × List Mount × List Mark × List Retired → Type 0 = λ r. All (Stands groups) r.2 in
+    let inner : Reply × List Mount × List Mark × List Retired =
+    (replies.Refused errno.Einval, mounts, marks, []) in
+    let busy : Reply × List Mount × List Mark × List Retired =
+    (replies.Refused errno.Ebusy, mounts, marks, []) in
+    let done : Reply × List Mount × List Mark × List Retired =
+    umount_reply (unmounted mounts place.mount) mounts marks place.mount last in
     either P (is_some place.parent) inner (cond (list_any (goes_through place.mount) accesses) busy done)
     (λ _. each)
     (either P (list_any (goes_through place.mount) accesses) busy done (λ _. each)
-    (leaves_umount groups (unmounted mounts place.mount) mounts marks place.mount each))
+    (leaves_umount groups (unmounted mounts place.mount) mounts marks place.mount last each))

@@ -288,11 +288,11 @@ write_keeps listeners group bytes each =
 
 -- a group that is closed keeps its answers
 closed_at_keeps : (found : Option ListenerState) (listeners : List ListenerState) (marks : List Mark)
-    (group : ℕ) → HeldKeeps found → KeepVerdicts listeners
-    → KeepVerdicts (closed_at found listeners marks group).1
+    (last group : ℕ) → HeldKeeps found → KeepVerdicts listeners
+    → KeepVerdicts (closed_at found listeners marks last group).1
 unfolding closed_of
-closed_at_keeps None listeners marks group here each = each
-closed_at_keeps (Some listener) listeners marks group here each =
+closed_at_keeps None listeners marks last group here each = each
+closed_at_keeps (Some listener) listeners marks last group here each =
     with_keeps listeners group (closed_of listener) each here
 
 if_open_keeps : (found : Option ListenerState) → HeldKeeps found → HeldKeeps (if_open found)
@@ -300,11 +300,11 @@ if_open_keeps None here = tt
 if_open_keeps (Some listener) here =
     either_keeps (λ held. HeldKeeps held) listener.closed None (Some listener) tt here
 
-close_keeps : (listeners : List ListenerState) (marks : List Mark) (group : ℕ) → KeepVerdicts listeners
-    → KeepVerdicts (closed_group listeners marks group).1
+close_keeps : (listeners : List ListenerState) (marks : List Mark) (last group : ℕ) → KeepVerdicts listeners
+    → KeepVerdicts (closed_group listeners marks last group).1
 unfolding closed_group
-close_keeps listeners marks group each =
-    closed_at_keeps (open_listener listeners group) listeners marks group
+close_keeps listeners marks last group each =
+    closed_at_keeps (open_listener listeners group) listeners marks last group
     (if_open_keeps (listener_at listeners group) (held_keeps listeners group each)) each
 
 -- a new group has no answer
@@ -339,7 +339,8 @@ verdicts_next world (steps.Init flags) each = init_keeps world.listeners flags e
 verdicts_next world (steps.Advance access) each = advanced_keeps world.listeners world.accesses access each
 verdicts_next world (steps.Read group size) each = read_keeps world.listeners group size each
 verdicts_next world (steps.Write group bytes) each = write_keeps world.listeners group bytes each
-verdicts_next world (steps.Close group) each = close_keeps world.listeners world.marks group each
+verdicts_next world (steps.Close group) each =
+    close_keeps world.listeners world.marks world.last_access group each
 verdicts_next world other each = each
 
 -- whatever steps came, each answer that is kept is a verdict

@@ -1,6 +1,7 @@
 -- The groups that want an event, found one after the other.
-use Rattle.std.proofs.Common.{◌≡◌, ◌∙◌, ℕ, suc, ◌<◌, List, [], ◌∷◌, ◌++◌, Option, Some, None, length, map, refl, sym, ap, arith, append_assoc, append-nil}
+use Rattle.std.proofs.Common.{◌≡◌, ◌∙◌, ℕ, ◌<◌, ◌≤◌, ◌+◌, List, [], ◌∷◌, ◌++◌, Some, None, length, sym, ap, arith, append_assoc, append-nil, length-append}
 use Rattle.std.specs.Prelude.{filter, nat_lt}
+use Rattle.std.proofs.lemmas.List.{length-map}
 use Rattle.fan_bits.specs.declared.mark.Mark.{Mark}
 use Rattle.fan_bits.specs.declared.place.Happening.{Happening}
 use Rattle.fan_bits.specs.declared.place.Interest.{Interest}
@@ -46,3 +47,16 @@ all_found marks happening after groups none all =
     sym (append-nil groups)
     ∙ ap (λ (left : List Interest). groups ++ groups_of left) (sym (interests_behind_None marks happening after none))
     ∙ all
+
+-- there is room for the next, where there is for all
+pub room_left : (marks : List Mark) (happening : Happening) (after : ℕ) (interest : Interest) (groups : List ℕ)
+    (capacity : ℕ)
+    → next_interest marks happening after ≡ Some interest → AreAll marks happening after groups
+    → length (groups_of (interests marks happening)) ≤ capacity → length groups < capacity
+room_left marks happening after interest groups capacity found all room =
+    let left = behind marks happening after in
+    let fewer = fewer_behind marks happening after interest found in
+    let longer : length groups + length left ≡ length (interests marks happening) =
+    simp (length-append, length-map) at (ap (λ (all : List ℕ). length all) all) in
+    let fits : length (interests marks happening) ≤ capacity = simp length-map at room in
+    omega (arith, fewer, longer, fits)

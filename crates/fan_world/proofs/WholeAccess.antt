@@ -14,13 +14,15 @@ use Rattle.fan_script.specs.declared.step.OpWord.{OpWord}
 use Rattle.fan_script.specs.declared.step.Step.{Step}
 use Rattle.fan_script.specs.declared.step.Step.TheVariants as steps
 use Rattle.fan_script.specs.declared.reply.StepOutcome.{StepOutcome}
+use Rattle.fan_world.specs.declared.access.Deed.{Deed}
+use Rattle.fan_world.specs.declared.access.Opening.{Opening}
 use Rattle.fan_world.specs.AccessLaw.{GoesInOrder, settled_in, settled_by, outcomes_of, is_finished}
-use Rattle.fan_world.specs.Accesses.{AccessState, access_step, beginning, has_number}
+use Rattle.fan_world.specs.Accesses.{AccessState, access_step, has_number}
 use Rattle.fan_world.specs.Run.{after_steps}
-use Rattle.fan_world.specs.World.{WorldState, opening_world, next, after_step, advanced}
+use Rattle.fan_world.specs.World.{WorldState, opening_world, next, after_step, advanced, deed_of}
 use Rattle.fan_world.proofs.Ahead.{Ahead, IsSteady, Goes, asks_left, tells_left, nothing_yet, step_goes}
 use Rattle.fan_world.proofs.Passing.{find-filter, filter_none, filter-change_first_same, filter-without_first_same}
-use Rattle.fan_world.proofs.OpenAccess.{AreFresh, Stands, numbered, advanced_other, advanced_none, advanced_keeps_none, begun_stands, begun_fresh, begun_opens}
+use Rattle.fan_world.proofs.OpenAccess.{AreFresh, Stands, numbered, advanced_other, advanced_none, advanced_keeps_none, begun_stands, begun_access, begun_fresh, begun_opens}
 
 -- the numbers above the last are fresh, whatever comes
 fresh_next : (world : WorldState) (step : Step) → AreFresh world.accesses world.last_access
@@ -250,27 +252,28 @@ ahead (step ∷ more) number access world is steady stands =
     (next world step).1 still steady_left stands_left)
 
 -- an access that begins is the only one of its number
-stands_begun : (world : WorldState) (number pid tid : ℕ) (op : OpWord) (path : List ℕ)
+stands_begun : (world : WorldState) (number pid tid : ℕ) (op : OpWord) (deed : Deed) (path : List ℕ)
     (second : Option (List ℕ)) (place : Place)
     → AreFresh world.accesses world.last_access →
     let begun = next world (steps.Begin number pid tid op path second) in
-    begun.0 ≡ replies.Done → Reaches world.tree world.mounts path place
-    → StandsIn number (beginning (record { number = number; pid = pid; tid = tid }) place world.marks ∷ [])
-    begun.1
+    let opening : Opening = record { number = number; pid = pid; tid = tid } in
+    begun.0 ≡ replies.Done → Reaches world.tree world.mounts path place → deed_of op ≡ Some deed
+    → StandsIn number (begun_access opening deed place world.marks ∷ []) begun.1
 unfolding next
-stands_begun world number pid tid op path second place fresh done here =
+stands_begun world number pid tid op deed path second place fresh done here does =
     begun_opens op world.tree world.mounts world.marks world.accesses world.last_access
-    (record { number = number; pid = pid; tid = tid }) path place fresh here done
+    (record { number = number; pid = pid; tid = tid }) path deed place fresh does here done
 
 -- from its begin on an access goes in order
-pub goes_in_order : (world : WorldState) (number pid tid : ℕ) (op : OpWord) (path : List ℕ)
+pub goes_in_order : (world : WorldState) (number pid tid : ℕ) (op : OpWord) (deed : Deed) (path : List ℕ)
     (second : Option (List ℕ)) (place : Place) (after : List Step)
     → AreFresh world.accesses world.last_access →
     let begun = next world (steps.Begin number pid tid op path second) in
-    begun.0 ≡ replies.Done → Reaches world.tree world.mounts path place
-    → GoesInOrder world.marks place (outcomes_of number begun.1 after)
+    begun.0 ≡ replies.Done → Reaches world.tree world.mounts path place → deed_of op ≡ Some deed
+    → GoesInOrder deed world.marks place (outcomes_of number begun.1 after)
     (is_finished number (after_steps begun.1 after))
-goes_in_order world number pid tid op path second place after fresh done here =
-    let access = beginning (record { number = number; pid = pid; tid = tid }) place world.marks in
-    ahead after number access (next world (steps.Begin number pid tid op path second)).1 refl
-    (λ asked waits. absurd (cc)) (stands_begun world number pid tid op path second place fresh done here)
+goes_in_order world number pid tid op deed path second place after fresh done here does =
+    let opening : Opening = record { number = number; pid = pid; tid = tid } in
+    ahead after number (begun_access opening deed place world.marks)
+    (next world (steps.Begin number pid tid op path second)).1 refl (λ asked waits. absurd (cc))
+    (stands_begun world number pid tid op deed path second place fresh done here does)

@@ -9,7 +9,8 @@ use Rattle.fan_script.specs.declared.reply.StepOutcome.TheVariants as outcomes
 use Rattle.fan_script.specs.declared.step.Step.{Step}
 use Rattle.fan_script.specs.declared.step.Step.TheVariants as steps
 use Rattle.fan_world.specs.Accesses.{has_number}
-use Rattle.fan_world.specs.Asks.{asked_groups, told_groups}
+use Rattle.fan_world.specs.declared.access.Deed.{Deed}
+use Rattle.fan_world.specs.Asks.{asked_groups, told_groups, marks_seen}
 use Rattle.fan_world.specs.World.{WorldState, next}
 
 -- the group whose ask an outcome settles: allowed, denied, closed or full
@@ -119,7 +120,8 @@ AsksThenTells (group ∷ asks) tells (outcome ∷ more) finished =
     (asked_by outcome ≡ Some group)
     × MatchBool (is_denial outcome) ((more ≡ []) × (finished ≡ true)) (AsksThenTells asks tells more finished)
 
--- an access of a place goes by the marks that stood at its begin
-abbrev pub GoesInOrder : List Mark → Place → List StepOutcome → Bool → Type 0
-GoesInOrder marks place outcomes finished =
-    AsksThenTells (asked_groups marks place) (told_groups marks place) outcomes finished
+-- an access of a place goes by the marks that stood at its begin, of a write once it has emptied ignored sets
+abbrev pub GoesInOrder : Deed → List Mark → Place → List StepOutcome → Bool → Type 0
+GoesInOrder deed marks place outcomes finished =
+    let seen = marks_seen deed marks place in
+    AsksThenTells (asked_groups deed seen place) (told_groups deed seen place) outcomes finished

@@ -16,13 +16,15 @@ use Rattle.fan_script.specs.declared.reply.StepOutcome.{StepOutcome}
 use Rattle.fan_script.specs.declared.reply.StepOutcome.TheVariants as outcomes
 use Rattle.fan_world.specs.declared.access.Opening.{Opening}
 use Rattle.fan_world.specs.declared.access.WaitingFor.{WaitingFor}
-use Rattle.fan_world.specs.Asks.{asked_groups, told_groups, open_bit, open_perm_bit}
+use Rattle.fan_world.specs.declared.access.Deed.{Deed}
+use Rattle.fan_world.specs.Asks.{asked_groups, told_groups, told_bit, open_perm_bit}
 
--- an access: its number, the place that it opens, and who opens it; the groups to ask and to tell, which its
+-- an access: its number, what it does and where, and who does it; the groups to ask and to tell, which its
 -- begin found by the marks as they stood; how many of its asks are settled, the ask that waits for an answer,
 -- and how many groups were told
 pub record AccessState : Type 0 where
   pub number : ℕ
+  pub deed : Deed
   pub place : Place
   pub pid : ℕ
   pub tid : ℕ
@@ -33,14 +35,15 @@ pub record AccessState : Type 0 where
   pub told : ℕ
 
 -- an access at its begin
-abbrev pub beginning : Opening → Place → List Mark → AccessState
-beginning opening place marks = record {
+abbrev pub beginning : Opening → Deed → Place → List Mark → AccessState
+beginning opening deed place marks = record {
   number = opening.number;
+  deed = deed;
   place = place;
   pid = opening.pid;
   tid = opening.tid;
-  to_ask = asked_groups marks place;
-  to_tell = told_groups marks place;
+  to_ask = asked_groups deed marks place;
+  to_tell = told_groups deed marks place;
   settled = 0;
   waiting = None;
   told = 0;
@@ -58,7 +61,7 @@ tells access = access.to_tell
 abbrev pub who_of : ℕ → AccessState → ℕ
 who_of flags access = if occurs flags report_tid then access.tid else access.pid
 
--- an event of the opening for a group that gets descriptors: the inode, through its mount
+-- an event of the access for a group that gets descriptors: the inode, through its mount
 abbrev pub event_of : ℕ → Bool → ℕ → AccessState → Event
 event_of bits perm flags access = record {
   bits = bits;
@@ -72,9 +75,9 @@ event_of bits perm flags access = record {
 abbrev pub asked_event : ℕ → AccessState → Event
 asked_event flags access = event_of open_perm_bit true flags access
 
--- what a group is told: FAN_OPEN
+-- what a group is told: FAN_OPEN or FAN_MODIFY
 abbrev pub told_event : ℕ → AccessState → Event
-told_event flags access = event_of open_bit false flags access
+told_event flags access = event_of (told_bit access.deed) false flags access
 
 -- the listener of a group, closed or not; groups are numbered from 1
 abbrev pub listener_at : List ListenerState → ℕ → Option ListenerState

@@ -5,7 +5,11 @@ use Rattle.fan_bits.specs.declared.class.Class.{Class}
 use Rattle.fan_bits.specs.declared.mark.Mark.{Mark}
 use Rattle.fan_bits.specs.Words.{class_of}
 use Rattle.fan_listener.specs.ListenerState.{ListenerState}
-use Rattle.fan_world.specs.Accesses.{AccessState, asks, tells}
+use Rattle.fan_bits.specs.declared.place.Place.{Place}
+use Rattle.fan_world.specs.declared.access.Deed.{Deed}
+use Rattle.fan_world.specs.declared.access.Opening.{Opening}
+use Rattle.fan_world.specs.Accesses.{AccessState, asks, beginning, tells}
+use Rattle.fan_world.specs.Asks.{marks_seen}
 use Rattle.fan_world.specs.World.{WorldState, most_groups}
 
 -- the flags of a group, where it is open
@@ -36,6 +40,12 @@ pub record AreSound (groups : List (Option ℕ)) (marks : List Mark) : Type 0 wh
 pub record HasFew (access : AccessState) : Type 0 where
   pub few_asks : length (asks access) ≤ most_groups
   pub few_tells : length (tells access) ≤ most_groups
+
+-- an access that begins by these marks has no more groups to ask, or to tell, than may be open
+abbrev pub FindFew : List Mark → Type 0
+FindFew marks =
+    (opening : Opening) (deed : Deed) (place : Place)
+    → HasFew (beginning opening deed place (marks_seen deed marks place))
 
 -- a state that steps can make
 pub record IsSound (world : WorldState) : Type 0 where

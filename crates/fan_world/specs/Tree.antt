@@ -1,5 +1,5 @@
 -- Steps that change the file tree and its mounts. A refused step changes nothing.
-use Rattle.std.specs.Prelude.{ℕ, ◌==◌, Bool, List, [], ◌∷◌, Option, Some, None, Result, Ok, Err, is_none, is_some, reverse, if◌then◌else◌}
+use Rattle.std.specs.Prelude.{ℕ, ◌==◌, Bool, List, [], ◌∷◌, Result, Ok, Err, is_none, is_some, reverse, if◌then◌else◌}
 use Rattle.std.specs.List.{list_any}
 use Rattle.fan_bits.specs.declared.change.Change.TheVariants.{DropObject}
 use Rattle.fan_bits.specs.declared.errno.Errno.{Errno}
@@ -14,6 +14,8 @@ use Rattle.fan_script.specs.declared.reply.Reply.{Reply}
 use Rattle.fan_script.specs.declared.reply.Reply.TheVariants as replies
 use Rattle.fan_tree.specs.Tree.{TreeState, made, made_fs, root_of}
 use Rattle.fan_world.specs.Accesses.{AccessState}
+use Rattle.fan_world.specs.Batches.{retired_by}
+use Rattle.fan_world.specs.declared.batches.Retired.{Retired}
 
 -- the reply to the making of a file or directory, and the tree after it
 abbrev pub made_reply : Result (ℕ × TreeState) Errno → TreeState → Reply × TreeState
@@ -63,20 +65,22 @@ mounted_at tree mounts fs path =
 abbrev pub goes_through : ℕ → AccessState → Bool
 goes_through mount access = access.place.mount == mount
 
--- the reply to the removal of a mount, and the mounts and the marks after it
-abbrev pub umount_reply : Result (List Mount) Errno → List Mount → List Mark → ℕ → Reply × List Mount × List Mark
-umount_reply (Err refusal) mounts marks mount = (replies.Refused refusal, mounts, marks)
-umount_reply (Ok left) mounts marks mount = (replies.Done, left, changed marks (DropObject mount))
+-- the reply to the removal of a mount, the mounts and the marks after it, and what it retires
+abbrev pub umount_reply : Result (List Mount) Errno → List Mount → List Mark → ℕ → ℕ → Reply × List Mount × List Mark × List Retired
+umount_reply (Err refusal) mounts marks mount last = (replies.Refused refusal, mounts, marks, [])
+umount_reply (Ok left) mounts marks mount last =
+    (replies.Done, left, changed marks (DropObject mount), retired_by marks (DropObject mount) last)
 
 -- the mount whose root is at a place is removed, where a path reaches it; a root has no parent
-abbrev pub unmounted_on : Result Place Errno → List Mount → List Mark → List AccessState → Reply × List Mount × List Mark
-unmounted_on (Err refusal) mounts marks accesses = (replies.Refused refusal, mounts, marks)
-unmounted_on (Ok place) mounts marks accesses =
-    if is_some place.parent then (replies.Refused errno.Einval, mounts, marks)
-    else (if list_any (goes_through place.mount) accesses then (replies.Refused errno.Ebusy, mounts, marks)
-    else umount_reply (unmounted mounts place.mount) mounts marks place.mount)
+abbrev pub unmounted_on : Result Place Errno → List Mount → List Mark → List AccessState → ℕ → Reply × List Mount × List Mark × List Retired
+unmounted_on (Err refusal) mounts marks accesses last = (replies.Refused refusal, mounts, marks, [])
+unmounted_on (Ok place) mounts marks accesses last =
+    if is_some place.parent then (replies.Refused errno.Einval, mounts, marks, [])
+    else (if list_any (goes_through place.mount) accesses then (replies.Refused errno.Ebusy, mounts, marks, [])
+    else umount_reply (unmounted mounts place.mount) mounts marks place.mount last)
 
 -- `umount`: the walk, EINVAL where this is no mount's root, EBUSY for the mount at `/`, for one that carries
--- another and for one through which an access is open; its marks go
-unfoldable pub unmounted_at : TreeState → List Mount → List Mark → List AccessState → List ℕ → Reply × List Mount × List Mark
-unmounted_at tree mounts marks accesses path = unmounted_on (place_of tree mounts path) mounts marks accesses
+-- another and for one through which an access is open; its marks go, and are retired
+unfoldable pub unmounted_at : TreeState → List Mount → List Mark → List AccessState → ℕ → List ℕ → Reply × List Mount × List Mark × List Retired
+unmounted_at tree mounts marks accesses last path =
+    unmounted_on (place_of tree mounts path) mounts marks accesses last

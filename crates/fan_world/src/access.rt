@@ -1,16 +1,17 @@
 // One access in progress.
-ghost use Rattle.std.specs.Prelude.{◌≡◌, ◌<◌, IfOk, IfSome, Some, slice_get, length};
+ghost use Rattle.std.specs.Prelude.{◌≡◌, [], ◌<◌, ◌≤◌, IfSome, Some, slice_get, length, vec_capacity};
 ghost use Rattle.fan_bits.specs.Marks.{IsMarkList};
 ghost use Rattle.fan_bits.specs.Places.{IsPlace};
 ghost use Rattle.fan_world.specs.Tree.{goes_through};
 ghost use Rattle.fan_world.specs.Accesses.{beginning, asks, tells, who_of, asked_event, told_event, settled_one, told_one};
+ghost use Rattle.fan_world.specs.Asks.{asked_groups, told_groups, told_bit};
+ghost use Rattle.fan_world.specs.Sound.{HasFew};
+ghost use Rattle.fan_world.specs.World.{most_groups};
 
-use super::interests::groups_that_want;
+use super::interests::groups_wanting;
 use fan_bits::{InitWords, Place};
-use fan_io::NoMemory;
 use fan_listener::{Event, Target};
 use fan_marks::MarkBook;
-use std::alloc::Global;
 use std::marker::Model;
 
 /// The number that an access is to have, and the process and thread that begin it.
@@ -30,6 +31,15 @@ impl Opening {
     }
 }
 
+/// What an access does.
+#[derive(Clone, Copy, Debug, PartialEq, Eq)]
+pub enum Deed {
+    /// It opens a file or a directory: FAN_OPEN_PERM is asked for, and FAN_OPEN told.
+    Opens,
+    /// It writes to a file: FAN_MODIFY is told.
+    Writes,
+}
+
 /// An ask that waits for its answer: the group, and the entry of its permission event.
 #[derive(Clone, Copy, Debug, PartialEq, Eq)]
 pub struct WaitingFor {
@@ -41,6 +51,7 @@ pub struct WaitingFor {
 #[derive(Debug, Drop)]
 pub struct Access {
     opening: Opening,
+    deed: Deed,
     place: Place,
     // The groups to ask and to tell, found at the begin by the marks as they stood then.
     to_ask: Vec<u32>,
@@ -59,6 +70,7 @@ impl Model for Access {
 
     ghost view = { λ a. record {
       number = a.opening.number;
+      deed = a.deed;
       place = a.place;
       pid = a.opening.pid;
       tid = a.opening.tid;
@@ -75,33 +87,72 @@ impl Model for Access {
 /// FAN_OPEN.
 const OPEN: u32 = 0x20;
 
+/// FAN_MODIFY.
+const MODIFY: u32 = 0x2;
+
 /// FAN_OPEN_PERM.
 const OPEN_PERM: u32 = 0x10000;
 
+impl Deed {
+    // The event of which groups are told.
+    fn told_bit(self) -> u32
+        ensures { result ≡ told_bit self }
+    {
+        match self {
+            Deed::Opens => OPEN,
+            Deed::Writes => MODIFY,
+        }
+    }
+}
+
+// The groups that are asked, in a list that has room for them: of a write none.
+fn groups_to_ask(room: Vec<u32>, marks: &mut MarkBook, deed: Deed, place: Place) -> Vec<u32>
+    requires empty { room.items ≡ [] }
+    requires room { length (asked_groups deed marks.old.marks place) ≤ vec_capacity room }
+    requires place { IsPlace place }
+    requires whole { IsMarkList marks.old.marks }
+    ensures groups { result.items ≡ asked_groups deed marks.old.marks place }
+    ensures marks { marks.new.marks ≡ marks.old.marks }
+{
+    match deed {
+        Deed::Opens => groups_wanting(room, marks, place, OPEN_PERM),
+        Deed::Writes => room,
+    }
+}
+
 impl Access {
-    /// An access of a place that begins now, with the marks as they stand.
+    /// An access of a place that begins now, with the marks as they stand. Its lists have room for the
+    /// groups to ask and to tell, so it takes no memory.
     pub(crate) fn begin(
-        alloc: Global,
+        room_to_ask: Vec<u32>,
+        room_to_tell: Vec<u32>,
         opening: Opening,
+        deed: Deed,
         place: Place,
         marks: &mut MarkBook,
-    ) -> Result<Access, NoMemory>
+    ) -> Access
+        requires no_asks { room_to_ask.items ≡ [] }
+        requires no_tells { room_to_tell.items ≡ [] }
+        requires asks { most_groups ≤ vec_capacity room_to_ask }
+        requires tells { most_groups ≤ vec_capacity room_to_tell }
+        requires few { HasFew (beginning opening deed place marks.old.marks) }
         requires place { IsPlace place }
         requires whole { IsMarkList marks.old.marks }
-        ensures ok { IfOk result (λ access. access ≡ beginning opening place marks.old.marks) }
+        ensures access { result ≡ beginning opening deed place marks.old.marks }
         ensures marks { marks.new.marks ≡ marks.old.marks }
     {
-        let to_ask = groups_that_want(alloc, marks, place, OPEN_PERM)?;
-        let to_tell = groups_that_want(alloc, marks, place, OPEN)?;
-        Ok(Access {
+        let to_ask = groups_to_ask(room_to_ask, marks, deed, place);
+        let to_tell = groups_wanting(room_to_tell, marks, place, deed.told_bit());
+        Access {
             opening,
+            deed,
             place,
             to_ask,
             to_tell,
             settled: 0,
             waiting: None,
             told: 0,
-        })
+        }
     }
 
     /// Whether it was begun through a mount.
@@ -171,7 +222,7 @@ impl Access {
         ensures { result ≡ told_event flags.bits self.now }
     {
         Event {
-            bits: OPEN,
+            bits: self.deed.told_bit(),
             ondir: self.place.dir,
             who: self.who(flags),
             perm: false,

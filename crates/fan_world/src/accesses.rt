@@ -1,13 +1,21 @@
 // The open accesses: how one begins, and its single steps.
-ghost use Rattle.std.specs.Prelude.{◌≡◌, [], ◌∷◌, ◌<◌, ◌^◌, length, position, Some, None, IfOk, IfSome, OnErr, if◌then◌else◌};
-ghost use Rattle.fan_world.specs.Accesses.{AccessState, has_number, kept_access};
+ghost use Rattle.std.specs.Prelude.{◌≡◌, ℕ, [], ◌∷◌, ◌++◌, ◌<◌, ◌^◌, length, position, Some, None, IfOk, IfSome, OnErr, if◌then◌else◌};
+ghost use Rattle.fan_world.specs.Accesses.{AccessState, beginning, has_number, kept_access};
+ghost use Rattle.fan_world.specs.Asks.{marks_seen};
+ghost use Rattle.fan_world.specs.Batches.{noted};
 ghost use Rattle.fan_world.specs.Bounds.{AreBounded};
+ghost use Rattle.fan_world.specs.Retiring.{begun_so};
+ghost use Rattle.fan_world.specs.Sound.{FindFew};
 ghost use Rattle.fan_bits.specs.Marks.{IsMarkList};
-ghost use Rattle.fan_world.specs.World.{begun, begun_by, advanced};
+ghost use Rattle.fan_bits.specs.Places.{IsPlace};
+ghost use Rattle.fan_world.specs.World.{advanced, begins, begun, begun_by, deed_of, is_misplaced, retired_at_begin};
 
-use super::access::{Access, Opening};
+use super::access::{Access, Deed, Opening};
+use super::batches::Replied;
+use super::interests::room_for_groups;
+use super::marking::retire;
 use super::stepping::step;
-use fan_bits::Errno;
+use fan_bits::{Change, Errno, Place};
 use fan_io::{Items, NoMemory};
 use fan_listener::Listener;
 use fan_marks::MarkBook;
@@ -15,6 +23,27 @@ use fan_mounts::Mounts;
 use fan_script::{OpWord, Reply, StepOutcome};
 use fan_tree::Tree;
 use std::alloc::Global;
+
+// What an operation does, where it is built.
+fn deed_of(op: OpWord) -> Option<Deed>
+    ensures { result ≡ deed_of op }
+{
+    match op {
+        OpWord::Opens => Some(Deed::Opens),
+        OpWord::Writes => Some(Deed::Writes),
+        _ => None,
+    }
+}
+
+// Whether it can't be done at a place: a directory can't be written to.
+fn is_misplaced(deed: Deed, place: &Place) -> bool
+    ensures { result ≡ is_misplaced deed place.now }
+{
+    match deed {
+        Deed::Opens => false,
+        Deed::Writes => place.dir,
+    }
+}
 
 /// Begins an access of what a path reaches. EINVAL for an operation that isn't built yet.
 #[tactic(auto, unfolding(crate::specs::World::begun_by))]
@@ -28,16 +57,23 @@ pub(crate) fn begin(
     opening: Opening,
     op: OpWord,
     path: &[u8],
-) -> Result<Reply, NoMemory>
-    requires { IsMarkList marks.old.marks }
-    ensures ok { IfOk result (λ reply. (reply, accesses.new.items, last_access.new) ≡ begun_by op
-        tree.now mounts.now marks.old.marks accesses.old.items last_access.old opening path.now) }
-    ensures marks { marks.new.marks ≡ marks.old.marks }
+) -> Result<Replied, NoMemory>
+    requires whole { IsMarkList marks.old.marks }
+    requires few { FindFew marks.old.marks }
+    ensures ok { IfOk result (λ done. (
+      done.reply,
+      begun_so marks.new.marks accesses.new.items last_access.new done.retired,
+    )
+        ≡ begun_by op tree.now mounts.now marks.old.marks accesses.old.items last_access.old
+        opening path.now) }
+    ensures whole { IsMarkList marks.new.marks }
+    ensures marks { OnErr result (marks.new.marks ≡ marks.old.marks) }
     ensures accesses { OnErr result (accesses.new.items ≡ accesses.old.items) }
     ensures last_access { OnErr result (last_access.new ≡ last_access.old) }
 {
-    match op {
-        OpWord::Opens => open(
+    match deed_of(op) {
+        None => Ok(Replied::refused(Errno::Einval)),
+        Some(deed) => begin_deed(
             alloc,
             tree,
             mounts,
@@ -45,15 +81,15 @@ pub(crate) fn begin(
             accesses,
             last_access,
             opening,
+            deed,
             path,
         ),
-        _ => Ok(Reply::Refused(Errno::Einval)),
     }
 }
 
-// Begins an opening of what a path reaches.
+// Begins an access that does this with what a path reaches: EEXIST, the walk, EISDIR.
 #[tactic(auto, unfolding(crate::specs::World::begun))]
-fn open(
+fn begin_deed(
     alloc: Global,
     tree: &Tree,
     mounts: &Mounts,
@@ -61,25 +97,86 @@ fn open(
     accesses: &mut Vec<Access>,
     last_access: &mut u32,
     opening: Opening,
+    deed: Deed,
     path: &[u8],
-) -> Result<Reply, NoMemory>
-    requires { IsMarkList marks.old.marks }
-    ensures ok { IfOk result (λ reply. (reply, accesses.new.items, last_access.new) ≡ begun
-        tree.now mounts.now marks.old.marks accesses.old.items last_access.old opening path.now) }
-    ensures marks { marks.new.marks ≡ marks.old.marks }
+) -> Result<Replied, NoMemory>
+    requires whole { IsMarkList marks.old.marks }
+    requires few { FindFew marks.old.marks }
+    ensures ok { IfOk result (λ done. (
+      done.reply,
+      begun_so marks.new.marks accesses.new.items last_access.new done.retired,
+    )
+        ≡ begun tree.now mounts.now marks.old.marks accesses.old.items last_access.old
+        opening deed path.now) }
+    ensures whole { IsMarkList marks.new.marks }
+    ensures marks { OnErr result (marks.new.marks ≡ marks.old.marks) }
     ensures accesses { OnErr result (accesses.new.items ≡ accesses.old.items) }
     ensures last_access { OnErr result (last_access.new ≡ last_access.old) }
 {
     if opening.number <= *last_access {
-        return Ok(Reply::Refused(Errno::Eexist));
+        return Ok(Replied::refused(Errno::Eexist));
     }
-    match mounts.place(tree, path) {
-        Err(refusal) => Ok(Reply::Refused(refusal)),
-        Ok(place) => {
-            accesses.push(Access::begin(alloc, opening, place, marks)?)?;
-            *last_access = opening.number;
-            Ok(Reply::Done)
-        }
+    let place = match mounts.place(tree, path) {
+        Err(refusal) => return Ok(Replied::refused(refusal)),
+        Ok(place) => place,
+    };
+    if is_misplaced(deed, &place) {
+        return Ok(Replied::refused(Errno::Eisdir));
+    }
+    let retired = begin_at(alloc, marks, accesses, opening, deed, place)?;
+    *last_access = opening.number;
+    Ok(Replied::done(retired))
+}
+
+// Begins an access of a place, and gives how many marks that retires. All memory is taken first, since
+// an ignored set that was emptied can't be filled again.
+fn begin_at(
+    alloc: Global,
+    marks: &mut MarkBook,
+    accesses: &mut Vec<Access>,
+    opening: Opening,
+    deed: Deed,
+    place: Place,
+) -> Result<u32, NoMemory>
+    requires whole { IsMarkList marks.old.marks }
+    requires few { FindFew marks.old.marks }
+    requires place { IsPlace place }
+    ensures marks { IfOk result (λ _. marks.new.marks ≡ marks_seen deed marks.old.marks place) }
+    ensures accesses { IfOk result (λ _. accesses.new.items ≡ accesses.old.items
+        ++ beginning opening deed place (marks_seen deed marks.old.marks place) ∷ []) }
+    ensures retired { IfOk result (λ retired. noted retired opening.number
+        ≡ retired_at_begin deed marks.old.marks place opening.number) }
+    ensures whole { IsMarkList marks.new.marks }
+    ensures marks_stay { OnErr result (marks.new.marks ≡ marks.old.marks) }
+    ensures accesses_stay { OnErr result (accesses.new.items ≡ accesses.old.items) }
+{
+    accesses.reserve(1)?;
+    let room_to_ask = room_for_groups(alloc)?;
+    let room_to_tell = room_for_groups(alloc)?;
+    let retired = empty_ignored(marks, deed, &place);
+    let access = Access::begin(room_to_ask, room_to_tell, opening, deed, place, marks);
+    accesses.push_reserved(access);
+    Ok(retired)
+}
+
+// A write empties the ignored sets on its file, but for those that survive it. Gives how many marks that
+// retires. Takes no memory.
+#[tactic(auto, unfolding(crate::specs::Batches::retired_by))]
+fn empty_ignored(marks: &mut MarkBook, deed: Deed, place: &Place) -> u32
+    requires { IsMarkList marks.old.marks }
+    ensures marks { marks.new.marks ≡ marks_seen deed marks.old.marks place.now }
+    ensures retired { (last : ℕ) → noted result last
+        ≡ retired_at_begin deed marks.old.marks place.now last }
+    ensures whole { IsMarkList marks.new.marks }
+{
+    match deed {
+        Deed::Opens => 0,
+        Deed::Writes => retire(
+            marks,
+            &Change::Clear {
+                object: place.inode,
+            },
+        ),
     }
 }
 

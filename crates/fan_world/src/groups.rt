@@ -1,23 +1,23 @@
 // The groups: their listeners, from group 1 on, and the steps that name one.
-ghost use Rattle.std.specs.Prelude.{◌≡◌, ◌≢◌, ◌+◌, ◌-◌, ◌<◌, ◌≤◌, ◌^◌, length, slice_get, Some, None, IfOk, IfErr, IfSome, IfNone, OnOk, OnErr, count_by};
+ghost use Rattle.std.specs.Prelude.{◌≡◌, ℕ, ◌≢◌, ◌+◌, ◌-◌, ◌<◌, ◌≤◌, ◌^◌, length, slice_get, Some, None, IfOk, IfErr, IfSome, IfNone, OnOk, OnErr, count_by};
 ghost use Rattle.fan_listener.specs.Records.{read_of};
 ghost use Rattle.fan_listener.specs.Responses.{written};
 ghost use Rattle.fan_world.specs.Accesses.{listener_at, with_listener};
+ghost use Rattle.fan_world.specs.Batches.{noted};
 ghost use Rattle.fan_world.specs.Bounds.{AreBounded};
 ghost use Rattle.fan_bits.specs.Marks.{IsMarkList};
 ghost use Rattle.fan_world.specs.Marking.{open_listener, if_open};
 ghost use Rattle.fan_world.specs.World.{is_open, grouped, read_from, read_answer, written_to, write_answer, closed_group, closed_at, read_errno, write_errno};
 
-use super::marking::drop_group;
-use fan_bits::{Errno, init_words};
+use super::batches::Replied;
+use super::interests::MOST_GROUPS;
+use super::marking::retire;
+use fan_bits::{Change, Errno, init_words};
 use fan_io::{Items, NoMemory};
 use fan_listener::{Listener, ReadRefused, WriteRefused};
 use fan_marks::MarkBook;
 use fan_script::Reply;
 use std::alloc::Global;
-
-/// How many groups may be open.
-const MOST_GROUPS: usize = 128;
 
 /// How many entries the queue of a group has at most.
 const QUEUE_LIMIT: u32 = 16_384;
@@ -162,20 +162,24 @@ fn errno_of(refusal: WriteRefused) -> Errno
 }
 
 /// Closes a group and drops its marks. Takes no memory.
-#[tactic(auto, unfolding(crate::specs::World::closed_group))]
-pub(crate) fn close_group(listeners: &mut Vec<Listener>, marks: &mut MarkBook, group: u32) -> Reply
+#[tactic(auto, unfolding(crate::specs::World::closed_group, crate::specs::Batches::retired_by))]
+pub(crate) fn close_group(
+    listeners: &mut Vec<Listener>,
+    marks: &mut MarkBook,
+    group: u32,
+) -> Replied
     requires { IsMarkList marks.old.marks }
     ensures whole { IsMarkList marks.new.marks }
-    ensures done { (result, listeners.new.items, marks.new.marks)
-        ≡ closed_group listeners.old.items marks.old.marks group }
+    ensures done { (last : ℕ) →
+        (result.reply, listeners.new.items, marks.new.marks, noted result.retired last)
+        ≡ closed_group listeners.old.items marks.old.marks last group }
 {
     match place_of_open_group(listeners, group) {
-        None => Reply::Refused(Errno::Ebadf),
+        None => Replied::refused(Errno::Ebadf),
         Some(place) => {
             let listener = &mut listeners[place];
             listener.close();
-            drop_group(marks, group);
-            Reply::Done
+            Replied::done(retire(marks, &Change::DropGroup { group }))
         }
     }
 }

@@ -5,25 +5,27 @@ ghost use Rattle.fan_mounts.specs.Reaches.{Reaches};
 ghost use Rattle.fan_script.specs.declared.reply.StepOutcome.{StepOutcome};
 ghost use Rattle.fan_script.specs.declared.step.OpWord.{OpWord};
 ghost use Rattle.fan_script.specs.declared.step.Step.{Step};
+ghost use Rattle.fan_world.specs.declared.access.Deed.{Deed};
 ghost use Rattle.fan_world.specs.AccessLaw.{GoesInOrder, outcomes_of, is_finished};
 ghost use Rattle.fan_world.specs.Accesses.{AccessState, has_number};
 ghost use Rattle.fan_world.specs.Causes.{IsDueTo};
 ghost use Rattle.fan_world.specs.Run.{after_steps};
-ghost use Rattle.fan_world.specs.World.{WorldState, opening_world, next};
+ghost use Rattle.fan_world.specs.World.{WorldState, deed_of, opening_world, next};
 
 use fan_bits::Errno;
 use fan_script::{Reply, Step};
 
 /// An access that begins asks groups and then tells groups, by the marks as they stand at its
-/// begin and whatever comes after it. Their outcomes come in that order, up to the first denial,
-/// and to the last group where the access is finished.
+/// begin, of a write once it has emptied the ignored sets on its file that don't survive it, and
+/// whatever comes after it. Their outcomes come in that order, up to the first denial, and to the
+/// last group where the access is finished.
 pub fn accesses_ask_then_tell()
     ensures { (before after : List Step) (number pid tid : ℕ) (op : OpWord)
-        (path : List ℕ) (second : Option (List ℕ)) (place : Place) →
+        (deed : Deed) (path : List ℕ) (second : Option (List ℕ)) (place : Place) →
         let world = after_steps opening_world before in
         let begun = next world (Step.Begin number pid tid op path second) in
         begun.0 ≡ Reply.Done → Reaches world.tree world.mounts path place →
-        GoesInOrder world.marks place (outcomes_of number begun.1 after)
+        deed_of op ≡ Some deed → GoesInOrder deed world.marks place (outcomes_of number begun.1 after)
         (is_finished number (after_steps begun.1 after)) }
 {}
 

@@ -4,10 +4,12 @@
 
 mod access;
 mod accesses;
+mod batches;
 mod groups;
 mod interests;
 mod laws;
 mod marking;
+mod reclaim_law;
 mod run_law;
 mod stepping;
 #[cfg(test)]
@@ -15,7 +17,9 @@ mod tests;
 mod tree_steps;
 mod world;
 
-pub use access::{Access, Opening, WaitingFor};
+pub use access::{Access, Deed, Opening, WaitingFor};
+pub use batches::Retired;
 pub use laws::{accesses_ask_then_tell, finished_accesses_stay_so, outcomes_have_causes};
+pub use reclaim_law::marks_are_reclaimed_once;
 pub use run_law::every_run_ends;
 pub use world::World;

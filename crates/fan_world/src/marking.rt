@@ -1,14 +1,17 @@
 // `mark`: the marks of a group are changed; and marks that go with what they are on.
-ghost use Rattle.std.specs.Prelude.{◌≡◌, ◌≢◌, ◌≤◌, All, IfOk, OnErr, Some, slice_get};
-ghost use Rattle.fan_bits.specs.Marks.{IsMarkList, changed};
+ghost use Rattle.std.specs.Prelude.{◌≡◌, ◌≢◌, ◌≤◌, ℕ, Ok, false, All, IfOk, OnErr, length};
+ghost use Rattle.fan_bits.specs.Marks.{IsMarkList, changed, retired};
 ghost use Rattle.fan_bits.specs.Words.{class_of};
 ghost use Rattle.fan_bits.specs.Places.{IsObject, IsPlace};
 ghost use Rattle.fan_listener.specs.ListenerState.{ListenerState};
+ghost use Rattle.fan_marks.specs.Book.{may_grow};
+ghost use Rattle.fan_world.specs.Batches.{noted};
 ghost use Rattle.fan_world.specs.Marking.{mark_errno, marked, put_at, put_on_place};
 ghost use Rattle.fan_world.specs.Sound.{IsOpenAs, Stands, opens};
 
+use super::batches::Replied;
 use super::groups::place_of_open_group;
-use fan_bits::{Change, Errno, Kind, MarkWords, Place, Verb, mark_words};
+use fan_bits::{Change, Errno, MarkWords, Place, Verb, mark_words};
 use fan_io::NoMemory;
 use fan_listener::Listener;
 use fan_marks::{MarkBook, MarkRefused};
@@ -16,28 +19,17 @@ use fan_mounts::Mounts;
 use fan_script::Reply;
 use fan_tree::Tree;
 
-/// Drops the marks of a group. Takes no memory.
-pub(crate) fn drop_group(marks: &mut MarkBook, group: u32)
-    ensures marks { marks.new.marks ≡ changed marks.old.marks (Change.DropGroup group) }
+/// Makes a change that only takes, and gives how many marks it retires. Takes no memory.
+pub(crate) fn retire(marks: &mut MarkBook, change: &Change) -> u32
+    requires takes { may_grow change.now ≡ false }
+    ensures marks { marks.new.marks ≡ changed marks.old.marks change.now }
+    ensures retired { result ≡ length (retired marks.old.marks change.now) }
     ensures whole { IsMarkList marks.new.marks }
 {
-    let _ = marks.change(&Change::DropGroup { group }, true);
-}
-
-/// Drops the marks on an object. Takes no memory.
-pub(crate) fn drop_object(marks: &mut MarkBook, object: u32)
-    ensures marks { marks.new.marks ≡ changed marks.old.marks (Change.DropObject object) }
-    ensures whole { IsMarkList marks.new.marks }
-{
-    let _ = marks.change(&Change::DropObject { object }, true);
-}
-
-// Drops the marks of a group on objects of a kind. Takes no memory.
-fn flush(marks: &mut MarkBook, group: u32, kind: Kind)
-    ensures marks { marks.new.marks ≡ changed marks.old.marks (Change.Flush group kind) }
-    ensures whole { IsMarkList marks.new.marks }
-{
-    let _ = marks.change(&Change::Flush { group, kind }, true);
+    match marks.change(change, true) {
+        Ok(done) => done.retired,
+        Err(_) => 0,
+    }
 }
 
 // Why a change of marks is refused; want of memory has no reply of its own.
@@ -51,20 +43,22 @@ fn errno_of(refusal: MarkRefused) -> Errno
 }
 
 // Puts bits on the mark of a group on an object, or takes them from it.
+#[tactic(auto, unfolding(crate::specs::Batches::retired_by))]
 fn put(
     marks: &mut MarkBook,
     listener: &Listener,
     group: u32,
     words: MarkWords,
     object: u32,
-) -> Result<Reply, NoMemory>
+) -> Result<Replied, NoMemory>
     requires group { 1 ≤ group }
     requires object { IsObject object }
     requires verb { words.verb ≢ Verb.Flush }
     requires class { All (λ mark. mark.group ≡ group → mark.class ≡ class_of listener.now.flags)
         marks.old.marks }
-    ensures ok { IfOk result (λ reply. (reply, marks.new.marks)
-        ≡ put_at marks.old.marks listener.now group words object) }
+    ensures ok { IfOk result (λ done. (last : ℕ) →
+        (done.reply, marks.new.marks, noted done.retired last)
+        ≡ put_at marks.old.marks listener.now group words object last) }
     ensures whole { IsMarkList marks.new.marks }
     ensures err { OnErr result (marks.new.marks ≡ marks.old.marks) }
 {
@@ -76,9 +70,9 @@ fn put(
         object,
     };
     match marks.change(&change, init.unlimited_marks()) {
-        Ok(_) => Ok(Reply::Done),
+        Ok(done) => Ok(Replied::done(done.retired)),
         Err(MarkRefused::NoMemory) => Err(NoMemory),
-        Err(refusal) => Ok(Reply::Refused(errno_of(refusal))),
+        Err(refusal) => Ok(Replied::refused(errno_of(refusal))),
     }
 }
 
@@ -89,26 +83,27 @@ fn put_on(
     group: u32,
     words: MarkWords,
     place: Place,
-) -> Result<Reply, NoMemory>
+) -> Result<Replied, NoMemory>
     requires whole { IsMarkList marks.old.marks }
     requires group { 1 ≤ group }
     requires place { IsPlace place }
     requires verb { words.verb ≢ Verb.Flush }
     requires class { All (λ mark. mark.group ≡ group → mark.class ≡ class_of listener.now.flags)
         marks.old.marks }
-    ensures ok { IfOk result (λ reply. (reply, marks.new.marks)
-        ≡ put_on_place (Ok place) marks.old.marks listener.now group words) }
+    ensures ok { IfOk result (λ done. (last : ℕ) →
+        (done.reply, marks.new.marks, noted done.retired last)
+        ≡ put_on_place (Ok place) marks.old.marks listener.now group words last) }
     ensures whole { IsMarkList marks.new.marks }
     ensures err { OnErr result (marks.new.marks ≡ marks.old.marks) }
 {
     if words.only_dir && !place.dir {
-        return Ok(Reply::Refused(Errno::Enotdir));
+        return Ok(Replied::refused(Errno::Enotdir));
     }
     put(marks, listener, group, words, place.object(words.kind))
 }
 
 /// Changes the marks of a group: EBADF, EINVAL, the walk, ENOTDIR, ENOENT, ENOSPC.
-#[tactic(auto, unfolding(crate::specs::Marking::marked))]
+#[tactic(auto, unfolding(crate::specs::Marking::marked, crate::specs::Batches::retired_by))]
 pub(crate) fn mark(
     listeners: &[Listener],
     tree: &Tree,
@@ -118,27 +113,29 @@ pub(crate) fn mark(
     flags: u32,
     mask: u64,
     path: &[u8],
-) -> Result<Reply, NoMemory>
+) -> Result<Replied, NoMemory>
     requires classes { All (Stands (opens listeners.now)) marks.old.marks }
     requires whole { IsMarkList marks.old.marks }
-    ensures ok { IfOk result (λ reply. (reply, marks.new.marks)
-        ≡ marked listeners.now tree.now mounts.now marks.old.marks group flags mask path.now) }
+    ensures ok { IfOk result (λ done. (last : ℕ) →
+        (done.reply, marks.new.marks, noted done.retired last)
+        ≡ marked listeners.now tree.now mounts.now marks.old.marks last group flags mask path.now) }
     ensures whole { IsMarkList marks.new.marks }
     ensures err { OnErr result (marks.new.marks ≡ marks.old.marks) }
 {
     let Some(place) = place_of_open_group(listeners, group) else {
-        return Ok(Reply::Refused(Errno::Ebadf));
+        return Ok(Replied::refused(Errno::Ebadf));
     };
     let listener = &listeners[place];
     let Ok(words) = mark_words(flags, mask, listener.init()) else {
-        return Ok(Reply::Refused(Errno::Einval));
+        return Ok(Replied::refused(Errno::Einval));
     };
     if words.verb == Verb::Flush {
-        flush(marks, group, words.kind);
-        return Ok(Reply::Done);
+        let kind = words.kind;
+        let retired = retire(marks, &Change::Flush { group, kind });
+        return Ok(Replied::done(retired));
     }
     match mounts.place(tree, path) {
-        Err(refusal) => Ok(Reply::Refused(refusal)),
+        Err(refusal) => Ok(Replied::refused(refusal)),
         Ok(place) => put_on(marks, listener, group, words, place),
     }
 }

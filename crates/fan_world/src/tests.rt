@@ -178,3 +178,83 @@ fn a_denial_ends_an_opening_before_a_group_is_told(rt: HostRuntime) -> Result<()
     ];
     assert_answers(&rt, rt.alloc(), &rows)
 }
+
+#[test]
+fn a_write_empties_the_ignored_sets_that_do_not_survive_it(rt: HostRuntime) -> Result<(), Fail> {
+    let rows = [
+        ("mkfile /a", "Inode(4)"),
+        ("mkdir /d", "Inode(5)"),
+        ("init 0", "Group(1)"),
+        ("mark 1 1 20 /a", "Done"),
+        ("mark 1 21 20 /a", "Done"),
+        ("begin 1 41 41 open /a", "Done"),
+        ("run 1", "[Done]"),
+        ("begin 2 41 41 write /d", "Refused(Eisdir)"),
+        ("begin 2 41 41 write /a", "Done"),
+        ("run 2", "[Done]"),
+        ("begin 3 41 41 open /a", "Done"),
+        ("run 3", "[Queued(1)][Done]"),
+        ("mark 1 61 20 /a", "Done"),
+        ("begin 4 41 41 write /a", "Done"),
+        ("run 4", "[Done]"),
+        ("begin 5 41 41 open /a", "Done"),
+        ("run 5", "[Done]"),
+        ("grace", "Reclaimed(0)"),
+        ("grace", "Reclaimed(3)"),
+        ("grace", "Reclaimed(0)"),
+    ];
+    assert_answers(&rt, rt.alloc(), &rows)
+}
+
+#[test]
+fn a_retired_mark_waits_for_the_accesses_that_began_before(rt: HostRuntime) -> Result<(), Fail> {
+    let rows = [
+        ("mkfile /f", "Inode(4)"),
+        ("init 4", "Group(1)"),
+        ("mark 1 1 10000 /f", "Done"),
+        ("begin 1 41 41 open /f", "Done"),
+        ("run 1", "[Asked(1)][Blocked(1)]"),
+        ("mark 1 2 10000 /f", "Done"),
+        ("grace", "Reclaimed(0)"),
+        ("grace", "Reclaimed(0)"),
+        ("begin 2 41 41 open /f", "Done"),
+        (
+            "read 1 24",
+            "180000000300180000000100000000000000000029000000",
+        ),
+        ("write 1 0000000001000000", "Done"),
+        ("run 1", "[Allowed(1)][Done]"),
+        ("grace", "Reclaimed(1)"),
+        ("run 2", "[Done]"),
+        ("mark 1 1 10000 /f", "Done"),
+        ("close 1", "Done"),
+        ("grace", "Reclaimed(0)"),
+        ("grace", "Reclaimed(1)"),
+    ];
+    assert_answers(&rt, rt.alloc(), &rows)
+}
+
+#[test]
+fn an_access_decides_by_the_marks_of_its_begin(rt: HostRuntime) -> Result<(), Fail> {
+    let rows = [
+        ("mkfile /f", "Inode(4)"),
+        ("init 4", "Group(1)"),
+        ("init 4", "Group(2)"),
+        ("init 0", "Group(3)"),
+        ("mark 1 1 10000 /f", "Done"),
+        ("begin 1 41 41 open /f", "Done"),
+        ("mark 1 2 10000 /f", "Done"),
+        ("mark 2 1 10000 /f", "Done"),
+        ("mark 3 1 20 /f", "Done"),
+        ("run 1", "[Asked(1)][Blocked(1)]"),
+        (
+            "read 1 24",
+            "180000000300180000000100000000000000000029000000",
+        ),
+        ("write 1 0000000001000000", "Done"),
+        ("run 1", "[Allowed(1)][Done]"),
+        ("begin 2 41 41 open /f", "Done"),
+        ("run 2", "[Asked(2)][Blocked(2)]"),
+    ];
+    assert_answers(&rt, rt.alloc(), &rows)
+}

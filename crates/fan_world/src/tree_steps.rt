@@ -1,14 +1,16 @@
 // Steps that change the file tree and its mounts. A refused step changes nothing.
-ghost use Rattle.std.specs.Prelude.{◌≡◌, IfOk, OnErr, true, is_some};
+ghost use Rattle.std.specs.Prelude.{◌≡◌, ℕ, IfOk, OnErr, true, is_some};
 ghost use Rattle.std.specs.List.{list_any};
 ghost use Rattle.fan_bits.specs.Marks.{IsMarkList};
 ghost use Rattle.fan_mounts.specs.Mounts.{mount_of, unmounted};
 ghost use Rattle.fan_tree.specs.Tree.{made};
+ghost use Rattle.fan_world.specs.Batches.{noted};
 ghost use Rattle.fan_world.specs.Tree.{fs_made, made_at, goes_through, made_reply, mounted_at, umount_reply, unmounted_at};
 
 use super::access::Access;
-use super::marking::drop_object;
-use fan_bits::Errno;
+use super::batches::Replied;
+use super::marking::retire;
+use fan_bits::{Change, Errno};
 use fan_io::NoMemory;
 use fan_marks::MarkBook;
 use fan_mounts::{Mounts, split_last};
@@ -97,19 +99,18 @@ fn is_in_use(accesses: &[Access], mount: u32) -> bool
 }
 
 // Removes a mount and drops its marks.
-fn remove_mount(mounts: &mut Mounts, marks: &mut MarkBook, mount: u32) -> Reply
+#[tactic(auto, unfolding(crate::specs::Batches::retired_by))]
+fn remove_mount(mounts: &mut Mounts, marks: &mut MarkBook, mount: u32) -> Replied
     requires mount { is_some (mount_of mounts.old mount) ≡ true }
     requires whole { IsMarkList marks.old.marks }
     ensures whole { IsMarkList marks.new.marks }
-    ensures done { (result, mounts.new, marks.new.marks)
-        ≡ umount_reply (unmounted mounts.old mount) mounts.old marks.old.marks mount }
+    ensures done { (last : ℕ) →
+        (result.reply, mounts.new, marks.new.marks, noted result.retired last)
+        ≡ umount_reply (unmounted mounts.old mount) mounts.old marks.old.marks mount last }
 {
     match mounts.umount(mount) {
-        Err(refusal) => Reply::Refused(refusal),
-        Ok(()) => {
-            drop_object(marks, mount);
-            Reply::Done
-        }
+        Err(refusal) => Replied::refused(refusal),
+        Ok(()) => Replied::done(retire(marks, &Change::DropObject { object: mount })),
     }
 }
 
@@ -121,21 +122,22 @@ pub(crate) fn umount(
     marks: &mut MarkBook,
     accesses: &[Access],
     path: &[u8],
-) -> Reply
+) -> Replied
     requires { IsMarkList marks.old.marks }
     ensures whole { IsMarkList marks.new.marks }
-    ensures done { (result, mounts.new, marks.new.marks)
-        ≡ unmounted_at tree.now mounts.old marks.old.marks accesses.now path.now }
+    ensures done { (last : ℕ) →
+        (result.reply, mounts.new, marks.new.marks, noted result.retired last)
+        ≡ unmounted_at tree.now mounts.old marks.old.marks accesses.now last path.now }
 {
     let place = match mounts.place(tree, path) {
-        Err(refusal) => return Reply::Refused(refusal),
+        Err(refusal) => return Replied::refused(refusal),
         Ok(place) => place,
     };
     if place.parent.is_some() {
-        return Reply::Refused(Errno::Einval);
+        return Replied::refused(Errno::Einval);
     }
     if is_in_use(accesses, place.mount) {
-        return Reply::Refused(Errno::Ebusy);
+        return Replied::refused(Errno::Ebusy);
     }
     remove_mount(mounts, marks, place.mount)
 }

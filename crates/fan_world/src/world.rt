@@ -4,6 +4,7 @@ ghost use Rattle.fan_world.specs.World.{next, opening_world};
 
 use super::access::{Access, Opening};
 use super::accesses::{advance, begin};
+use super::batches::Retirement;
 use super::groups::{close_group, make_group, read_group, write_group};
 use super::marking::mark;
 use super::tree_steps::{make_entry, make_fs, mount, umount};
@@ -25,6 +26,7 @@ pub struct World {
     mounts: Mounts,
     listeners: Vec<Listener>,
     marks: MarkBook,
+    retirement: Retirement,
     accesses: Vec<Access>,
     last_access: u32,
     steps: u32,
@@ -42,6 +44,7 @@ impl Model for World {
         mounts = w.mounts;
         listeners = w.listeners.items;
         marks = w.marks.marks;
+        retirement = w.retirement.state;
         accesses = w.accesses.items;
         last_access = w.last_access;
       };
@@ -53,6 +56,7 @@ impl Model for World {
       mounts = w.mounts;
       listeners = w.listeners.items;
       marks = w.marks.marks;
+      retirement = w.retirement.state;
       accesses = w.accesses.items;
       last_access = w.last_access;
     }) };
@@ -69,6 +73,7 @@ impl World {
             mounts: Mounts::new(alloc)?,
             listeners: Vec::new(alloc),
             marks: MarkBook::new(alloc)?,
+            retirement: Retirement::new(alloc),
             accesses: Vec::new(alloc),
             last_access: 0,
             steps: 0,
@@ -101,30 +106,38 @@ impl World {
             Step::Mount { fs, path } => {
                 mount(&mut self.tree, &mut self.mounts, *fs, path.as_slice())?
             }
-            Step::Umount { path } => umount(
-                &self.tree,
-                &mut self.mounts,
-                &mut self.marks,
-                &self.accesses,
-                path.as_slice(),
-            ),
-            Step::Limit { .. } | Step::Grace => Reply::Refused(Errno::Einval),
+            Step::Umount { path } => {
+                self.retirement.reserve()?;
+                let done = umount(
+                    &self.tree,
+                    &mut self.mounts,
+                    &mut self.marks,
+                    &self.accesses,
+                    path.as_slice(),
+                );
+                self.retirement.note(done, self.last_access)
+            }
+            Step::Limit { .. } => Reply::Refused(Errno::Einval),
             Step::Init { flags } => make_group(self.alloc, &mut self.listeners, *flags)?,
             Step::Mark {
                 group,
                 flags,
                 mask,
                 path,
-            } => mark(
-                &self.listeners,
-                &self.tree,
-                &self.mounts,
-                &mut self.marks,
-                *group,
-                *flags,
-                *mask,
-                path.as_slice(),
-            )?,
+            } => {
+                self.retirement.reserve()?;
+                let done = mark(
+                    &self.listeners,
+                    &self.tree,
+                    &self.mounts,
+                    &mut self.marks,
+                    *group,
+                    *flags,
+                    *mask,
+                    path.as_slice(),
+                )?;
+                self.retirement.note(done, self.last_access)
+            }
             Step::Begin {
                 access,
                 pid,
@@ -132,17 +145,21 @@ impl World {
                 op,
                 path,
                 second: _,
-            } => begin(
-                self.alloc,
-                &self.tree,
-                &self.mounts,
-                &mut self.marks,
-                &mut self.accesses,
-                &mut self.last_access,
-                Opening::new(*access, *pid, *tid),
-                *op,
-                path.as_slice(),
-            )?,
+            } => {
+                self.retirement.reserve()?;
+                let done = begin(
+                    self.alloc,
+                    &self.tree,
+                    &self.mounts,
+                    &mut self.marks,
+                    &mut self.accesses,
+                    &mut self.last_access,
+                    Opening::new(*access, *pid, *tid),
+                    *op,
+                    path.as_slice(),
+                )?;
+                self.retirement.note(done, self.last_access)
+            }
             Step::Advance { access } => advance(
                 self.alloc,
                 &mut self.listeners,
@@ -153,7 +170,14 @@ impl World {
             Step::Write { group, bytes } => {
                 write_group(&mut self.listeners, *group, bytes.as_slice())
             }
-            Step::Close { group } => close_group(&mut self.listeners, &mut self.marks, *group),
+            Step::Close { group } => {
+                self.retirement.reserve()?;
+                let done = close_group(&mut self.listeners, &mut self.marks, *group);
+                self.retirement.note(done, self.last_access)
+            }
+            Step::Grace => {
+                Reply::Reclaimed(self.retirement.grace(&self.accesses, self.last_access))
+            }
         };
         self.steps += 1;
         Ok(reply)

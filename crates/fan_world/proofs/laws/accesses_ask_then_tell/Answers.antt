@@ -5,6 +5,6 @@ use Rattle.fan_world.proofs.WholeAccess.{goes_in_order, fresh_after, fresh_openi
 
 -- src/laws.rt
 pub returns : goal.returns
-returns c = λ before after number pid tid op path second place done here.
-    goes_in_order (after_steps opening_world before) number pid tid op path second place after
-    (fresh_after before opening_world fresh_opening) done here
+returns c = λ before after number pid tid op deed path second place done here does.
+    goes_in_order (after_steps opening_world before) number pid tid op deed path second place after
+    (fresh_after before opening_world fresh_opening) done here does
