@@ -9,12 +9,12 @@ use Rattle.fan_script.specs.declared.step.OpWord.{OpWord}
 use Rattle.fan_script.specs.declared.step.Step.TheVariants as steps
 use Rattle.fan_tree.specs.Tree.{TreeState}
 use Rattle.fan_world.specs.declared.access.Opening.{Opening}
-use Rattle.fan_world.specs.declared.batches.Retired.{Retired}
 use Rattle.fan_world.specs.Accesses.{AccessState}
 use Rattle.fan_world.specs.Asks.{marks_seen}
 use Rattle.fan_world.specs.Batches.{RetirementState}
 use Rattle.fan_world.specs.Bounds.{IsKept}
 use Rattle.fan_world.specs.Marking.{marked}
+use Rattle.fan_world.specs.Retiring.{marked_with, noted_with}
 use Rattle.fan_world.specs.Sound.{AreSound, FindFew}
 use Rattle.fan_world.specs.Tree.{unmounted_at}
 use Rattle.fan_world.specs.World.{Begun, WorldState, next, advanced, begun_by, closed_group, grouped, read_from, written_to}
@@ -40,16 +40,16 @@ module _ (count : ℕ) (world : WorldState) (kept : IsKept count world) where
   }
 
   -- `umount`
-  pub kept_umount : (path : List ℕ) (reply : Reply) (mounts : List Mount) (marks : List Mark) (gone : List Retired)
+  pub kept_umount : (path : List ℕ) (reply : Reply) (tree : TreeState) (mounts : List Mount) (marks : List Mark)
       (retirement : RetirementState)
-      → (reply, mounts, marks, gone)
-      ≡ unmounted_at world.tree world.mounts world.marks world.accesses world.last_access path
+      → (reply, mounts, marks, retirement) ≡ noted_with world.retirement
+      (unmounted_at world.tree world.mounts world.marks world.accesses world.last_access path)
       → IsMarkList marks
-      → IsKept (count + 1) (record world { mounts = mounts; marks = marks; retirement = retirement })
+      → IsKept (count + 1) (record world { tree = tree; mounts = mounts; marks = marks; retirement = retirement })
   unfolding next
-  kept_umount path reply mounts marks gone retirement is whole =
+  kept_umount path reply tree mounts marks retirement is whole =
       let all = unmounted_at world.tree world.mounts world.marks world.accesses world.last_access path in
-      let marks_are : marks ≡ all.2 = ap (λ (r : Reply × List Mount × List Mark × List Retired). r.2) is in
+      let marks_are : marks ≡ all.2 = ap (λ (r : Reply × List Mount × List Mark × RetirementState). r.2) is in
       let sound = sound_next world (steps.Umount path) kept.sound in
       record {
         listeners = bounded_later count world.listeners kept.listeners;
@@ -71,16 +71,16 @@ module _ (count : ℕ) (world : WorldState) (kept : IsKept count world) where
       }
 
   -- `mark`
-  pub kept_mark : (group flags mask : ℕ) (path : List ℕ) (reply : Reply) (marks : List Mark) (gone : List Retired)
+  pub kept_mark : (group flags mask : ℕ) (path : List ℕ) (reply : Reply) (marks : List Mark)
       (retirement : RetirementState)
-      → (reply, marks, gone)
-      ≡ marked world.listeners world.tree world.mounts world.marks world.last_access group flags mask path
+      → (reply, marks, retirement) ≡ marked_with world.retirement
+      (marked world.listeners world.tree world.mounts world.marks world.last_access group flags mask path)
       → IsMarkList marks → IsKept (count + 1) (record world { marks = marks; retirement = retirement })
   unfolding next
-  kept_mark group flags mask path reply marks gone retirement is whole =
+  kept_mark group flags mask path reply marks retirement is whole =
       let all =
       marked world.listeners world.tree world.mounts world.marks world.last_access group flags mask path in
-      let are : marks ≡ all.1 = ap (λ (r : Reply × List Mark × List Retired). r.1) is in
+      let are : marks ≡ all.1 = ap (λ (r : Reply × List Mark × RetirementState). r.1) is in
       let sound = sound_next world (steps.Mark group flags mask path) kept.sound in
       record {
         listeners = bounded_later count world.listeners kept.listeners;
@@ -154,17 +154,18 @@ module _ (count : ℕ) (world : WorldState) (kept : IsKept count world) where
 
   -- `close`
   pub kept_close : (group : ℕ) (reply : Reply) (listeners : List ListenerState) (marks : List Mark)
-      (gone : List Retired) (retirement : RetirementState)
-      → (reply, listeners, marks, gone) ≡ closed_group world.listeners world.marks world.last_access group
+      (retirement : RetirementState)
+      → (reply, listeners, marks, retirement) ≡ noted_with world.retirement
+      (closed_group world.listeners world.marks world.last_access group)
       → IsMarkList marks
       → IsKept (count + 1) (record world { listeners = listeners; marks = marks; retirement = retirement })
   unfolding next
-  kept_close group reply listeners marks gone retirement is whole =
+  kept_close group reply listeners marks retirement is whole =
       let all = closed_group world.listeners world.marks world.last_access group in
       let listeners_are : listeners ≡ all.1 =
-      ap (λ (r : Reply × List ListenerState × List Mark × List Retired). r.1) is in
+      ap (λ (r : Reply × List ListenerState × List Mark × RetirementState). r.1) is in
       let marks_are : marks ≡ all.2 =
-      ap (λ (r : Reply × List ListenerState × List Mark × List Retired). r.2) is in
+      ap (λ (r : Reply × List ListenerState × List Mark × RetirementState). r.2) is in
       let sound = sound_next world (steps.Close group) kept.sound in
       record {
         listeners = rw listeners_are (bounded_close _ _ _ _ _ kept.listeners);

@@ -1,9 +1,10 @@
 -- Retired marks as the code keeps them: how many may wait, and for how many more there is room.
 use Rattle.std.specs.Prelude.{ℕ, ◌*◌, ◌-◌, ◌≤◌, ◌^◌, List, length, min}
 use Rattle.fan_bits.specs.declared.mark.Mark.{Mark}
+use Rattle.fan_script.specs.declared.reply.Reply.{Reply}
 use Rattle.fan_world.specs.declared.batches.Retired.{Retired}
 use Rattle.fan_world.specs.Accesses.{AccessState}
-use Rattle.fan_world.specs.Batches.{RetirementState, count_retired, noted}
+use Rattle.fan_world.specs.Batches.{RetirementState, count_retired, noted, with_retired}
 use Rattle.fan_world.specs.World.{Begun}
 
 -- the retired marks; and for how many more entries there is room, whatever memory is left
@@ -28,3 +29,11 @@ pub record AreCounted (waiting : List Retired) : Type 0 where
 abbrev pub begun_so : List Mark → List AccessState → ℕ → ℕ → Begun
 begun_so marks accesses last count =
     record { marks = marks; accesses = accesses; last = last; retired = noted count last }
+
+-- what a step says and changes, with what it retires put to the rest
+abbrev pub noted_with : {X : Type 0} → RetirementState → Reply × X × List Mark × List Retired → Reply × X × List Mark × RetirementState
+noted_with retirement r = (r.0, r.1, r.2, with_retired retirement r.3)
+
+-- the same of a step that changes the marks alone
+abbrev pub marked_with : RetirementState → Reply × List Mark × List Retired → Reply × List Mark × RetirementState
+marked_with retirement r = (r.0, r.1, with_retired retirement r.2)

@@ -13,7 +13,7 @@ ghost use Rattle.fan_world.specs.World.{advanced, begins, begun, begun_by, deed_
 use super::access::{Access, Deed, Opening};
 use super::batches::Replied;
 use super::interests::room_for_groups;
-use super::marking::retire;
+use super::marks::retire;
 use super::stepping::step;
 use fan_bits::{Change, Errno, Place};
 use fan_io::{Items, NoMemory};

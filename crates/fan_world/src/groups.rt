@@ -7,11 +7,12 @@ ghost use Rattle.fan_world.specs.Batches.{noted};
 ghost use Rattle.fan_world.specs.Bounds.{AreBounded};
 ghost use Rattle.fan_bits.specs.Marks.{IsMarkList};
 ghost use Rattle.fan_world.specs.Marking.{open_listener, if_open};
+ghost use Rattle.fan_world.specs.Retiring.{noted_with};
 ghost use Rattle.fan_world.specs.World.{is_open, grouped, read_from, read_answer, written_to, write_answer, closed_group, closed_at, read_errno, write_errno};
 
 use super::batches::Replied;
 use super::interests::MOST_GROUPS;
-use super::marking::retire;
+use super::marks::{Marks, retire};
 use fan_bits::{Change, Errno, init_words};
 use fan_io::{Items, NoMemory};
 use fan_listener::{Listener, ReadRefused, WriteRefused};
@@ -161,25 +162,43 @@ fn errno_of(refusal: WriteRefused) -> Errno
     }
 }
 
-/// Closes a group and drops its marks. Takes no memory.
+// Closes a group and drops its marks. Takes no memory.
 #[tactic(auto, unfolding(crate::specs::World::closed_group, crate::specs::Batches::retired_by))]
-pub(crate) fn close_group(
-    listeners: &mut Vec<Listener>,
-    marks: &mut MarkBook,
-    group: u32,
-) -> Replied
-    requires { IsMarkList marks.old.marks }
-    ensures whole { IsMarkList marks.new.marks }
+fn drop_group(listeners: &mut Vec<Listener>, book: &mut MarkBook, group: u32) -> Replied
+    requires { IsMarkList book.old.marks }
+    ensures whole { IsMarkList book.new.marks }
     ensures done { (last : ℕ) →
-        (result.reply, listeners.new.items, marks.new.marks, noted result.retired last)
-        ≡ closed_group listeners.old.items marks.old.marks last group }
+        (result.reply, listeners.new.items, book.new.marks, noted result.retired last)
+        ≡ closed_group listeners.old.items book.old.marks last group }
 {
     match place_of_open_group(listeners, group) {
         None => Replied::refused(Errno::Ebadf),
         Some(place) => {
             let listener = &mut listeners[place];
             listener.close();
-            Replied::done(retire(marks, &Change::DropGroup { group }))
+            Replied::done(retire(book, &Change::DropGroup { group }))
         }
     }
+}
+
+/// Closes a group and drops its marks: EBADF.
+pub(crate) fn close_group(
+    listeners: &mut Vec<Listener>,
+    marks: &mut Marks,
+    last: u32,
+    group: u32,
+) -> Result<Reply, NoMemory>
+    requires { IsMarkList marks.old.book.marks }
+    ensures ok { IfOk result (λ reply.
+        (reply, listeners.new.items, marks.new.book.marks, marks.new.retirement.state)
+        ≡ noted_with marks.old.retirement.state
+        (closed_group listeners.old.items marks.old.book.marks last group)) }
+    ensures whole { IsMarkList marks.new.book.marks }
+    ensures listeners { OnErr result (listeners.new.items ≡ listeners.old.items) }
+    ensures marks { OnErr result (marks.new.book.marks ≡ marks.old.book.marks) }
+    ensures retirement { OnErr result (marks.new.retirement.state ≡ marks.old.retirement.state) }
+{
+    marks.retirement.reserve()?;
+    let done = drop_group(listeners, &mut marks.book, group);
+    Ok(marks.retirement.note(done, last))
 }

@@ -5,16 +5,16 @@
 mod access;
 mod accesses;
 mod batches;
+mod files;
 mod groups;
 mod interests;
 mod laws;
-mod marking;
+mod marks;
 mod reclaim_law;
 mod run_law;
 mod stepping;
 #[cfg(test)]
 mod tests;
-mod tree_steps;
 mod world;
 
 pub use access::{Access, Deed, Opening, WaitingFor};

@@ -4,17 +4,13 @@ ghost use Rattle.fan_world.specs.World.{next, opening_world};
 
 use super::access::{Access, Opening};
 use super::accesses::{advance, begin};
-use super::batches::Retirement;
+use super::files::{Files, umount};
 use super::groups::{close_group, make_group, read_group, write_group};
-use super::marking::mark;
-use super::tree_steps::{make_entry, make_fs, mount, umount};
+use super::marks::{MarkLine, Marks, mark};
 use fan_bits::Errno;
 use fan_io::NoMemory;
 use fan_listener::Listener;
-use fan_marks::MarkBook;
-use fan_mounts::Mounts;
 use fan_script::{Reply, Step};
-use fan_tree::Tree;
 use std::alloc::Global;
 use std::marker::Model;
 
@@ -22,11 +18,9 @@ use std::marker::Model;
 #[derive(Drop)]
 pub struct World {
     alloc: Global,
-    tree: Tree,
-    mounts: Mounts,
+    files: Files,
     listeners: Vec<Listener>,
-    marks: MarkBook,
-    retirement: Retirement,
+    marks: Marks,
     accesses: Vec<Access>,
     last_access: u32,
     steps: u32,
@@ -40,11 +34,11 @@ impl Model for World {
 
     ghost view = { λ w. record {
       state = record {
-        tree = w.tree;
-        mounts = w.mounts;
+        tree = w.files.tree;
+        mounts = w.files.mounts;
         listeners = w.listeners.items;
-        marks = w.marks.marks;
-        retirement = w.retirement.state;
+        marks = w.marks.book.marks;
+        retirement = w.marks.retirement.state;
         accesses = w.accesses.items;
         last_access = w.last_access;
       };
@@ -52,11 +46,11 @@ impl Model for World {
     } };
 
     ghost invariant = { λ w. IsKept w.steps (record {
-      tree = w.tree;
-      mounts = w.mounts;
+      tree = w.files.tree;
+      mounts = w.files.mounts;
       listeners = w.listeners.items;
-      marks = w.marks.marks;
-      retirement = w.retirement.state;
+      marks = w.marks.book.marks;
+      retirement = w.marks.retirement.state;
       accesses = w.accesses.items;
       last_access = w.last_access;
     }) };
@@ -69,11 +63,9 @@ impl World {
     {
         Ok(World {
             alloc,
-            tree: Tree::new(alloc)?,
-            mounts: Mounts::new(alloc)?,
+            files: Files::new(alloc)?,
             listeners: Vec::new(alloc),
-            marks: MarkBook::new(alloc)?,
-            retirement: Retirement::new(alloc),
+            marks: Marks::new(alloc)?,
             accesses: Vec::new(alloc),
             last_access: 0,
             steps: 0,
@@ -95,27 +87,20 @@ impl World {
         ensures steps { OnOk result (self.new.steps ≡ self.old.steps + 1) }
         ensures err { OnErr result (self.new ≡ self.old) }
     {
+        let last = self.last_access;
         let reply = match step {
-            Step::MkFile { path } => {
-                make_entry(&mut self.tree, &self.mounts, path.as_slice(), false)?
-            }
-            Step::MkDir { path } => {
-                make_entry(&mut self.tree, &self.mounts, path.as_slice(), true)?
-            }
-            Step::MkFs => make_fs(&mut self.tree)?,
-            Step::Mount { fs, path } => {
-                mount(&mut self.tree, &mut self.mounts, *fs, path.as_slice())?
-            }
+            Step::MkFile { path } => self.files.make_entry(path.as_slice(), false)?,
+            Step::MkDir { path } => self.files.make_entry(path.as_slice(), true)?,
+            Step::MkFs => self.files.make_fs()?,
+            Step::Mount { fs, path } => self.files.mount(*fs, path.as_slice())?,
             Step::Umount { path } => {
-                self.retirement.reserve()?;
-                let done = umount(
-                    &self.tree,
-                    &mut self.mounts,
+                umount(
+                    &mut self.files,
                     &mut self.marks,
                     &self.accesses,
+                    last,
                     path.as_slice(),
-                );
-                self.retirement.note(done, self.last_access)
+                )?
             }
             Step::Limit { .. } => Reply::Refused(Errno::Einval),
             Step::Init { flags } => make_group(self.alloc, &mut self.listeners, *flags)?,
@@ -125,18 +110,19 @@ impl World {
                 mask,
                 path,
             } => {
-                self.retirement.reserve()?;
-                let done = mark(
+                let line = MarkLine {
+                    group: *group,
+                    flags: *flags,
+                    mask: *mask,
+                };
+                mark(
                     &self.listeners,
-                    &self.tree,
-                    &self.mounts,
+                    &self.files,
                     &mut self.marks,
-                    *group,
-                    *flags,
-                    *mask,
+                    last,
+                    line,
                     path.as_slice(),
-                )?;
-                self.retirement.note(done, self.last_access)
+                )?
             }
             Step::Begin {
                 access,
@@ -144,40 +130,33 @@ impl World {
                 tid,
                 op,
                 path,
-                second: _,
+                ..
             } => {
-                self.retirement.reserve()?;
+                self.marks.retirement.reserve()?;
                 let done = begin(
                     self.alloc,
-                    &self.tree,
-                    &self.mounts,
-                    &mut self.marks,
+                    &self.files.tree,
+                    &self.files.mounts,
+                    &mut self.marks.book,
                     &mut self.accesses,
                     &mut self.last_access,
                     Opening::new(*access, *pid, *tid),
                     *op,
                     path.as_slice(),
                 )?;
-                self.retirement.note(done, self.last_access)
+                self.marks.retirement.note(done, self.last_access)
             }
-            Step::Advance { access } => advance(
-                self.alloc,
-                &mut self.listeners,
-                &mut self.accesses,
-                *access,
-            )?,
+            Step::Advance { access } => {
+                advance(self.alloc, &mut self.listeners, &mut self.accesses, *access)?
+            }
             Step::Read { group, size } => read_group(&mut self.listeners, *group, *size)?,
             Step::Write { group, bytes } => {
                 write_group(&mut self.listeners, *group, bytes.as_slice())
             }
             Step::Close { group } => {
-                self.retirement.reserve()?;
-                let done = close_group(&mut self.listeners, &mut self.marks, *group);
-                self.retirement.note(done, self.last_access)
+                close_group(&mut self.listeners, &mut self.marks, last, *group)?
             }
-            Step::Grace => {
-                Reply::Reclaimed(self.retirement.grace(&self.accesses, self.last_access))
-            }
+            Step::Grace => { Reply::Reclaimed(self.marks.retirement.grace(&self.accesses, last)) }
         };
         self.steps += 1;
         Ok(reply)
