@@ -14,10 +14,10 @@ use Rattle.fan_world.specs.Asks.{marks_seen}
 use Rattle.fan_world.specs.Batches.{RetirementState}
 use Rattle.fan_world.specs.Bounds.{IsKept}
 use Rattle.fan_world.specs.Marking.{marked}
-use Rattle.fan_world.specs.Retiring.{marked_with, noted_with}
+use Rattle.fan_world.specs.Retiring.{begun_with, marked_with, noted_with}
 use Rattle.fan_world.specs.Sound.{AreSound, FindFew}
 use Rattle.fan_world.specs.Tree.{unmounted_at}
-use Rattle.fan_world.specs.World.{Begun, WorldState, next, advanced, begun_by, closed_group, grouped, read_from, written_to}
+use Rattle.fan_world.specs.World.{WorldState, next, advanced, begun_by, closed_group, grouped, read_from, written_to}
 use Rattle.fan_world.proofs.Bounded.{bounded_later, bounded_group, bounded_advance, bounded_read, bounded_write, bounded_close}
 use Rattle.fan_world.proofs.Sound.{few_beginning, sound_next}
 use Rattle.fan_world.proofs.Standing.{stand_seen}
@@ -89,25 +89,32 @@ module _ (count : ℕ) (world : WorldState) (kept : IsKept count world) where
       }
 
   -- `begin`
-  pub kept_begin : (opening : Opening) (op : OpWord) (path : List ℕ) (reply : Reply) (begun : Begun)
-      (retirement : RetirementState)
-      → (reply, begun) ≡ begun_by op world.tree world.mounts world.marks world.accesses world.last_access opening path
-      → IsMarkList begun.marks
+  pub kept_begin : (opening : Opening) (op : OpWord) (path : List ℕ) (reply : Reply) (marks : List Mark)
+      (retirement : RetirementState) (accesses : List AccessState) (last : ℕ)
+      → (reply, marks, retirement, accesses, last) ≡ begun_with world.retirement
+      (begun_by op world.tree world.mounts world.marks world.accesses world.last_access opening path)
+      → IsMarkList marks
       → IsKept (count + 1) (record world {
-        marks = begun.marks;
+        marks = marks;
         retirement = retirement;
-        accesses = begun.accesses;
-        last_access = begun.last;
+        accesses = accesses;
+        last_access = last;
       })
   unfolding next
-  kept_begin opening op path reply begun retirement is whole =
+  kept_begin opening op path reply marks retirement accesses last is whole =
       let all = begun_by op world.tree world.mounts world.marks world.accesses world.last_access opening path in
-      let are : begun ≡ all.1 = ap (λ (r : Reply × Begun). r.1) is in
+      let marks_are : marks ≡ all.1.marks =
+      ap (λ (r : Reply × List Mark × RetirementState × List AccessState × ℕ). r.1) is in
+      let accesses_are : accesses ≡ all.1.accesses =
+      ap (λ (r : Reply × List Mark × RetirementState × List AccessState × ℕ). r.3) is in
       let sound = sound_next world (steps.Begin opening.number opening.pid opening.tid op path None) kept.sound in
       record {
         listeners = bounded_later count world.listeners kept.listeners;
         marks = whole;
-        sound = record { marked_well = rw are sound.marked_well; accesses_few = rw are sound.accesses_few };
+        sound = record {
+          marked_well = rw marks_are sound.marked_well;
+          accesses_few = rw accesses_are sound.accesses_few;
+        };
       }
 
   -- `step`

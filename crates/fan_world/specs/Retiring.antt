@@ -37,3 +37,7 @@ noted_with retirement r = (r.0, r.1, r.2, with_retired retirement r.3)
 -- the same of a step that changes the marks alone
 abbrev pub marked_with : RetirementState → Reply × List Mark × List Retired → Reply × List Mark × RetirementState
 marked_with retirement r = (r.0, r.1, with_retired retirement r.2)
+
+-- what a begin says, and makes of the marks, the retired marks, the open accesses and the greatest number
+abbrev pub begun_with : RetirementState → Reply × Begun → Reply × List Mark × RetirementState × List AccessState × ℕ
+begun_with retirement r = (r.0, r.1.marks, with_retired retirement r.1.retired, r.1.accesses, r.1.last)

@@ -4,7 +4,7 @@ ghost use Rattle.fan_world.specs.Accesses.{AccessState, beginning, has_number, k
 ghost use Rattle.fan_world.specs.Asks.{marks_seen};
 ghost use Rattle.fan_world.specs.Batches.{noted};
 ghost use Rattle.fan_world.specs.Bounds.{AreBounded};
-ghost use Rattle.fan_world.specs.Retiring.{begun_so};
+ghost use Rattle.fan_world.specs.Retiring.{begun_so, begun_with};
 ghost use Rattle.fan_world.specs.Sound.{FindFew};
 ghost use Rattle.fan_bits.specs.Marks.{IsMarkList};
 ghost use Rattle.fan_bits.specs.Places.{IsPlace};
@@ -12,16 +12,15 @@ ghost use Rattle.fan_world.specs.World.{advanced, begins, begun, begun_by, deed_
 
 use super::access::{Access, Deed, Opening};
 use super::batches::Replied;
+use super::files::Files;
 use super::interests::room_for_groups;
-use super::marks::retire;
+use super::marks::{Marks, retire};
 use super::stepping::step;
 use fan_bits::{Change, Errno, Place};
 use fan_io::{Items, NoMemory};
 use fan_listener::Listener;
 use fan_marks::MarkBook;
-use fan_mounts::Mounts;
 use fan_script::{OpWord, Reply, StepOutcome};
-use fan_tree::Tree;
 use std::alloc::Global;
 
 // What an operation does, where it is built.
@@ -45,29 +44,64 @@ fn is_misplaced(deed: Deed, place: &Place) -> bool
     }
 }
 
-/// Begins an access of what a path reaches. EINVAL for an operation that isn't built yet.
-#[tactic(auto, unfolding(crate::specs::World::begun_by))]
+/// Begins an access of what a path reaches: EINVAL for an operation that isn't built yet, EEXIST, the
+/// walk, EISDIR.
 pub(crate) fn begin(
     alloc: Global,
-    tree: &Tree,
-    mounts: &Mounts,
-    marks: &mut MarkBook,
+    files: &Files,
+    marks: &mut Marks,
+    accesses: &mut Vec<Access>,
+    last_access: &mut u32,
+    opening: Opening,
+    op: OpWord,
+    path: &[u8],
+) -> Result<Reply, NoMemory>
+    requires whole { IsMarkList marks.old.book.marks }
+    requires few { FindFew marks.old.book.marks }
+    ensures ok { IfOk result (λ reply. (
+      reply,
+      marks.new.book.marks,
+      marks.new.retirement.state,
+      accesses.new.items,
+      last_access.new,
+    )
+        ≡ begun_with marks.old.retirement.state (begun_by op files.now.tree files.now.mounts
+        marks.old.book.marks accesses.old.items last_access.old opening path.now)) }
+    ensures whole { IsMarkList marks.new.book.marks }
+    ensures marks { OnErr result (marks.new.book.marks ≡ marks.old.book.marks) }
+    ensures retirement { OnErr result (marks.new.retirement.state ≡ marks.old.retirement.state) }
+    ensures accesses { OnErr result (accesses.new.items ≡ accesses.old.items) }
+    ensures last_access { OnErr result (last_access.new ≡ last_access.old) }
+{
+    marks.retirement.reserve()?;
+    let book = &mut marks.book;
+    let done = begin_op(alloc, files, book, accesses, last_access, opening, op, path)?;
+    Ok(marks.retirement.note(done, *last_access))
+}
+
+// Begins an access of what a path reaches: EINVAL for an operation that isn't built yet, EEXIST, the
+// walk, EISDIR.
+#[tactic(auto, unfolding(crate::specs::World::begun_by))]
+fn begin_op(
+    alloc: Global,
+    files: &Files,
+    book: &mut MarkBook,
     accesses: &mut Vec<Access>,
     last_access: &mut u32,
     opening: Opening,
     op: OpWord,
     path: &[u8],
 ) -> Result<Replied, NoMemory>
-    requires whole { IsMarkList marks.old.marks }
-    requires few { FindFew marks.old.marks }
+    requires whole { IsMarkList book.old.marks }
+    requires few { FindFew book.old.marks }
     ensures ok { IfOk result (λ done. (
       done.reply,
-      begun_so marks.new.marks accesses.new.items last_access.new done.retired,
+      begun_so book.new.marks accesses.new.items last_access.new done.retired,
     )
-        ≡ begun_by op tree.now mounts.now marks.old.marks accesses.old.items last_access.old
+        ≡ begun_by op files.now.tree files.now.mounts book.old.marks accesses.old.items last_access.old
         opening path.now) }
-    ensures whole { IsMarkList marks.new.marks }
-    ensures marks { OnErr result (marks.new.marks ≡ marks.old.marks) }
+    ensures whole { IsMarkList book.new.marks }
+    ensures marks { OnErr result (book.new.marks ≡ book.old.marks) }
     ensures accesses { OnErr result (accesses.new.items ≡ accesses.old.items) }
     ensures last_access { OnErr result (last_access.new ≡ last_access.old) }
 {
@@ -75,9 +109,8 @@ pub(crate) fn begin(
         None => Ok(Replied::refused(Errno::Einval)),
         Some(deed) => begin_deed(
             alloc,
-            tree,
-            mounts,
-            marks,
+            files,
+            book,
             accesses,
             last_access,
             opening,
@@ -91,39 +124,38 @@ pub(crate) fn begin(
 #[tactic(auto, unfolding(crate::specs::World::begun))]
 fn begin_deed(
     alloc: Global,
-    tree: &Tree,
-    mounts: &Mounts,
-    marks: &mut MarkBook,
+    files: &Files,
+    book: &mut MarkBook,
     accesses: &mut Vec<Access>,
     last_access: &mut u32,
     opening: Opening,
     deed: Deed,
     path: &[u8],
 ) -> Result<Replied, NoMemory>
-    requires whole { IsMarkList marks.old.marks }
-    requires few { FindFew marks.old.marks }
+    requires whole { IsMarkList book.old.marks }
+    requires few { FindFew book.old.marks }
     ensures ok { IfOk result (λ done. (
       done.reply,
-      begun_so marks.new.marks accesses.new.items last_access.new done.retired,
+      begun_so book.new.marks accesses.new.items last_access.new done.retired,
     )
-        ≡ begun tree.now mounts.now marks.old.marks accesses.old.items last_access.old
+        ≡ begun files.now.tree files.now.mounts book.old.marks accesses.old.items last_access.old
         opening deed path.now) }
-    ensures whole { IsMarkList marks.new.marks }
-    ensures marks { OnErr result (marks.new.marks ≡ marks.old.marks) }
+    ensures whole { IsMarkList book.new.marks }
+    ensures marks { OnErr result (book.new.marks ≡ book.old.marks) }
     ensures accesses { OnErr result (accesses.new.items ≡ accesses.old.items) }
     ensures last_access { OnErr result (last_access.new ≡ last_access.old) }
 {
     if opening.number <= *last_access {
         return Ok(Replied::refused(Errno::Eexist));
     }
-    let place = match mounts.place(tree, path) {
+    let place = match files.place(path) {
         Err(refusal) => return Ok(Replied::refused(refusal)),
         Ok(place) => place,
     };
     if is_misplaced(deed, &place) {
         return Ok(Replied::refused(Errno::Eisdir));
     }
-    let retired = begin_at(alloc, marks, accesses, opening, deed, place)?;
+    let retired = begin_at(alloc, book, accesses, opening, deed, place)?;
     *last_access = opening.number;
     Ok(Replied::done(retired))
 }

@@ -132,19 +132,16 @@ impl World {
                 path,
                 ..
             } => {
-                self.marks.retirement.reserve()?;
-                let done = begin(
+                begin(
                     self.alloc,
-                    &self.files.tree,
-                    &self.files.mounts,
-                    &mut self.marks.book,
+                    &self.files,
+                    &mut self.marks,
                     &mut self.accesses,
                     &mut self.last_access,
                     Opening::new(*access, *pid, *tid),
                     *op,
                     path.as_slice(),
-                )?;
-                self.marks.retirement.note(done, self.last_access)
+                )?
             }
             Step::Advance { access } => {
                 advance(self.alloc, &mut self.listeners, &mut self.accesses, *access)?

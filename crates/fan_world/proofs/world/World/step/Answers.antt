@@ -1,7 +1,7 @@
 use Rattle.fan_world.specs.Sound.{opens}
 use Rattle.fan_world.proofs.Kept.{find_few, kept_tree, kept_umount, kept_init, kept_mark, kept_begin, kept_advance, kept_read, kept_write, kept_close}
 use Rattle.fan_world.proofs.world.World.step.Goals as goal
-use Rattle.fan_world.proofs.world.World.step.Goals.{in-MkFile+in_ok-reply-in-MkFile, in-MkDir+in_ok-reply-in-MkDir, in-MkFs+in_ok-reply-in-MkFs, in-Mount+in_ok-reply-in-Mount, in-Umount+in_ok-reply-in-Umount, in-Limit, in-Init+in_ok-reply-in-Init, in-Mark+in_ok-reply-in-Mark, in-Begin+in_ok-reserve-in-Begin+in_ok-done-in-Begin, in-Advance+in_ok-reply-in-Advance, in-Read+in_ok-reply-in-Read, in-Write, in-Close+in_ok-reply-in-Close, in-Grace}
+use Rattle.fan_world.proofs.world.World.step.Goals.{in-MkFile+in_ok-reply-in-MkFile, in-MkDir+in_ok-reply-in-MkDir, in-MkFs+in_ok-reply-in-MkFs, in-Mount+in_ok-reply-in-Mount, in-Umount+in_ok-reply-in-Umount, in-Limit, in-Init+in_ok-reply-in-Init, in-Mark+in_ok-reply-in-Mark, in-Begin+in_ok-reply-in-Begin, in-Advance+in_ok-reply-in-Advance, in-Read+in_ok-reply-in-Read, in-Write, in-Close+in_ok-reply-in-Close, in-Grace}
 
 -- a state that steps make has few groups to ask and to tell
 pub begin-requires-clause-few : goal.begin-requires-clause-few
@@ -22,7 +22,7 @@ invariant_of-self-2 c =
       | in-Limit w ↦ rw w.self-inside-is (kept_tree count _ kept _ _ _)
       | in-Init+in_ok-reply-in-Init w ↦ rw w.self-inside-is (kept_init count _ kept _ _ _ w.in_ok-reply-in-Init.ensures.ok)
       | in-Mark+in_ok-reply-in-Mark w ↦ rw w.self-inside-is (kept_mark count _ kept _ _ _ _ _ _ _ (rw w.deref-in-Mark.ensures.value at w.in_ok-reply-in-Mark.ensures.ok) w.in_ok-reply-in-Mark.ensures.whole)
-      | in-Begin+in_ok-reserve-in-Begin+in_ok-done-in-Begin w ↦ rw w.self-inside-is (kept_begin count _ kept _ _ _ _ _ _ w.in_ok-done-in-Begin.ensures.ok w.in_ok-done-in-Begin.ensures.whole)
+      | in-Begin+in_ok-reply-in-Begin w ↦ rw w.self-inside-is (kept_begin count _ kept _ _ _ _ _ _ _ _ w.in_ok-reply-in-Begin.ensures.ok w.in_ok-reply-in-Begin.ensures.whole)
       | in-Advance+in_ok-reply-in-Advance w ↦ rw w.self-inside-is (kept_advance count _ kept _ _ _ _ w.in_ok-reply-in-Advance.ensures.ok)
       | in-Read+in_ok-reply-in-Read w ↦ rw w.self-inside-is (kept_read count _ kept _ _ _ _ w.in_ok-reply-in-Read.ensures.ok)
       | in-Write w ↦ rw w.self-inside-is (kept_write count _ kept _ _ _ _ w.write_group-reply.ensures)
