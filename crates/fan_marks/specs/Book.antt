@@ -33,12 +33,19 @@ lacks_mark marks (Clear object) = false
 lacks_mark marks (DropGroup group) = false
 lacks_mark marks (DropObject object) = false
 
+-- FAN_MARK_ADD makes a new mark: its group has none on the object, and the bits leave one that stands
+abbrev pub makes_mark : List Mark → Change → Bool
+makes_mark marks (Put group class words object) =
+    is_none (mark_of marks group object) && is_some (put_mark None group class words object)
+makes_mark marks (Flush group kind) = false
+makes_mark marks (Clear object) = false
+makes_mark marks (DropGroup group) = false
+makes_mark marks (DropObject object) = false
+
 -- a group that has 8,192 marks would get a new one
 abbrev pub is_too_many : List Mark → Change → Bool
 is_too_many marks (Put group class words object) =
-    is_none (mark_of marks group object)
-    && is_some (put_mark None group class words object)
-    && not (nat_lt (count_of marks group) most_marks)
+    makes_mark marks (Put group class words object) && not (nat_lt (count_of marks group) most_marks)
 is_too_many marks (Flush group kind) = false
 is_too_many marks (Clear object) = false
 is_too_many marks (DropGroup group) = false
@@ -49,14 +56,6 @@ abbrev pub refusal_of : List Mark → Change → Bool → Option MarkRefused
 refusal_of marks change unlimited =
     if lacks_mark marks change then Some NoMark
     else if not unlimited && is_too_many marks change then Some (Limit most_marks) else None
-
--- a change that may make a new mark, and so may want memory
-abbrev pub may_grow : Change → Bool
-may_grow (Put group class words object) = true
-may_grow (Flush group kind) = false
-may_grow (Clear object) = false
-may_grow (DropGroup group) = false
-may_grow (DropObject object) = false
 
 -- the refusal is that one, or memory ran out where there was no room
 abbrev pub IsRefused : BookState → MarkRefused → Option MarkRefused → Type 0

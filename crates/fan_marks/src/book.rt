@@ -3,7 +3,7 @@ ghost use Rattle.std.specs.Prelude.{◌≡◌, Err, ◌≢◌, ◌≤◌, ◌↔
 ghost use Rattle.fan_bits.specs.declared.mark.Mark.{Mark};
 ghost use Rattle.fan_bits.specs.Marks.{IsChange, IsMarkList, changed, count_of, mark_of, next_on};
 ghost use Rattle.fan_bits.specs.Places.{IsObject};
-ghost use Rattle.fan_marks.specs.Book.{IsRefused, may_grow, refusal_of};
+ghost use Rattle.fan_marks.specs.Book.{IsRefused, makes_mark, refusal_of};
 ghost use Rattle.fan_bits.specs.Marks.{retired};
 
 use super::edits::make;
@@ -121,9 +121,9 @@ impl MarkBook {
         takes(&self.marks, change)
     }
 
-    /// Makes a change. `NoMark` comes exactly where bits are to be taken from a mark that isn't there, and
-    /// else `Limit` exactly where a group that isn't `unlimited` has 8,192 marks and would get a new one.
-    /// Memory is wanted only by a change that puts bits on a mark or takes them, where there is no room.
+    /// Makes a change. `NoMark` comes exactly where bits are to be taken from a mark that isn't
+    /// there, and else `Limit` exactly where a group that isn't `unlimited` has 8,192 marks and would
+    /// get a new one. Memory is wanted only by a change that makes a new mark, where there is no room.
     pub fn change(&mut self, change: &Change, unlimited: bool) -> Result<Changed, MarkRefused>
         requires { IsChange self.old.marks change.now }
         ensures ok { OnOk result (self.new.marks ≡ changed self.old.marks change.now) }
@@ -134,7 +134,8 @@ impl MarkBook {
         ensures taken { OnOk result (refusal_of self.old.marks change.now unlimited ≡ None) }
         ensures refused { IfErr result (λ why.
             IsRefused self.old why (refusal_of self.old.marks change.now unlimited)) }
-        ensures growth { result ≡ Err MarkRefused.NoMemory → may_grow change.now ≡ true }
+        ensures growth { result ≡ Err MarkRefused.NoMemory
+            → makes_mark self.old.marks change.now ≡ true }
         ensures err { OnErr result (self.new.marks ≡ self.old.marks) }
         ensures whole { IsMarkList self.new.marks }
     {

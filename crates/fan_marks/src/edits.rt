@@ -1,8 +1,8 @@
 // What each change makes of the marks, and what is told of it.
-ghost use Rattle.std.specs.Prelude.{◌≡◌, true, ◌+◌, ◌≤◌, ◌==◌, ◌&&◌, [], IfOk, OnOk, OnErr, count_by, filter, length, map, not};
+ghost use Rattle.std.specs.Prelude.{◌≡◌, true, ◌+◌, ◌≤◌, ◌==◌, ◌&&◌, [], None, IfOk, OnOk, OnErr, count_by, filter, is_some, length, map, not};
 ghost use Rattle.fan_bits.specs.declared.change.Change.TheVariants.{Put, Flush, Clear, DropGroup, DropObject};
 ghost use Rattle.fan_bits.specs.Marks.{IsChange, IsMarkList, cleared, is_before, listed, order_of, standing, stands};
-ghost use Rattle.fan_marks.specs.Book.{may_grow};
+ghost use Rattle.fan_marks.specs.Book.{makes_mark};
 ghost use Rattle.fan_bits.specs.Marks.{same_mark};
 ghost use Rattle.fan_marks.specs.Made.{IsMade, forgets, is_other, is_retired, most_in_book, told_count, told_put};
 ghost use Rattle.fan_marks.specs.Spliced.{spliced};
@@ -20,7 +20,7 @@ pub(crate) fn make(marks: &mut Marks, change: &Change) -> Result<Changed, NoMemo
     requires count { length marks.old.marks ≤ most_in_book }
     ensures ok { IfOk result (λ done. IsMade marks.old.marks marks.new.marks change.now done) }
     ensures err { OnErr result (marks.new.marks ≡ marks.old.marks) }
-    ensures growth { OnErr result (may_grow change.now ≡ true) }
+    ensures growth { OnErr result (makes_mark marks.old.marks change.now ≡ true) }
     ensures full { OnErr result (marks.old.spare ≡ 0) }
     ensures count { length marks.new.marks ≤ most_in_book }
 {
@@ -39,6 +39,7 @@ pub(crate) fn make(marks: &mut Marks, change: &Change) -> Result<Changed, NoMemo
 }
 
 // Puts bits on the mark of a group on an object, or takes them from it.
+#[tactic(auto, unfolding(fan_bits::specs::Marks::updated))]
 fn put(
     marks: &mut Marks,
     group: u32,
@@ -52,6 +53,8 @@ fn put(
     ensures ok { IfOk result (λ done.
         IsMade marks.old.marks marks.new.marks (Put group class words object) done) }
     ensures err { OnErr result (marks.new.marks ≡ marks.old.marks) }
+    ensures growth { OnErr result
+        (makes_mark marks.old.marks (Put group class words object) ≡ true) }
     ensures full { OnErr result (marks.old.spare ≡ 0) }
     ensures count { length marks.new.marks ≤ most_in_book }
 {
@@ -76,6 +79,7 @@ fn place(marks: &mut Marks, at: usize, was: Option<Mark>, new: Option<Mark>) -> 
     ensures ok { OnOk result (marks.new.marks
         ≡ spliced marks.old.marks at (length (listed was)) (listed new)) }
     ensures err { OnErr result (marks.new.marks ≡ marks.old.marks) }
+    ensures growth { OnErr result ((was ≡ None) × (is_some new ≡ true)) }
     ensures full { OnErr result (marks.old.spare ≡ 0) }
     ensures count { length marks.new.marks ≤ most_in_book }
 {

@@ -1,10 +1,10 @@
 // The marks with those that were retired, and `mark`, which changes the marks of a group.
 ghost use Rattle.std.specs.Prelude.{◌≡◌, ◌≢◌, ◌≤◌, ℕ, [], Ok, false, All, IfOk, OnErr, length};
-ghost use Rattle.fan_bits.specs.Marks.{IsMarkList, changed, retired};
+ghost use Rattle.fan_bits.specs.Marks.{IsChange, IsMarkList, changed, retired};
 ghost use Rattle.fan_bits.specs.Words.{class_of};
 ghost use Rattle.fan_bits.specs.Places.{IsObject, IsPlace};
 ghost use Rattle.fan_listener.specs.ListenerState.{ListenerState};
-ghost use Rattle.fan_marks.specs.Book.{may_grow};
+ghost use Rattle.fan_marks.specs.Book.{lacks_mark, makes_mark};
 ghost use Rattle.fan_world.specs.Batches.{noted, nothing_retired};
 ghost use Rattle.fan_world.specs.Marking.{mark_errno, marked, put_at, put_on_place};
 ghost use Rattle.fan_world.specs.Retiring.{marked_with};
@@ -48,9 +48,11 @@ impl Marks {
     }
 }
 
-/// Makes a change that only takes, and gives how many marks it retires. Takes no memory.
+/// Makes a change that makes no new mark, and gives how many marks it retires. Takes no memory.
 pub(crate) fn retire(book: &mut MarkBook, change: &Change) -> u32
-    requires takes { may_grow change.now ≡ false }
+    requires change { IsChange book.old.marks change.now }
+    requires found { lacks_mark book.old.marks change.now ≡ false }
+    requires no_growth { makes_mark book.old.marks change.now ≡ false }
     ensures marks { book.new.marks ≡ changed book.old.marks change.now }
     ensures retired { result ≡ length (retired book.old.marks change.now) }
     ensures whole { IsMarkList book.new.marks }
