@@ -8,6 +8,7 @@ mod batches;
 mod groups;
 mod interests;
 mod laws;
+mod listeners;
 mod marking;
 mod reclaim_law;
 mod run_law;

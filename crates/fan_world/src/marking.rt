@@ -10,7 +10,7 @@ ghost use Rattle.fan_world.specs.Marking.{mark_errno, marked, put_at, put_on_pla
 ghost use Rattle.fan_world.specs.Sound.{IsOpenAs, Stands, opens};
 
 use super::batches::Replied;
-use super::groups::place_of_open_group;
+use super::groups::Groups;
 use fan_bits::{Change, Errno, MarkWords, Place, Verb, mark_words};
 use fan_io::NoMemory;
 use fan_listener::Listener;
@@ -105,7 +105,7 @@ fn put_on(
 /// Changes the marks of a group: EBADF, EINVAL, the walk, ENOTDIR, ENOENT, ENOSPC.
 #[tactic(auto, unfolding(crate::specs::Marking::marked, crate::specs::Batches::retired_by))]
 pub(crate) fn mark(
-    listeners: &[Listener],
+    groups: &Groups,
     tree: &Tree,
     mounts: &Mounts,
     marks: &mut MarkBook,
@@ -114,18 +114,17 @@ pub(crate) fn mark(
     mask: u64,
     path: &[u8],
 ) -> Result<Replied, NoMemory>
-    requires classes { All (Stands (opens listeners.now)) marks.old.marks }
+    requires classes { All (Stands (opens groups.now)) marks.old.marks }
     requires whole { IsMarkList marks.old.marks }
     ensures ok { IfOk result (λ done. (last : ℕ) →
         (done.reply, marks.new.marks, noted done.retired last)
-        ≡ marked listeners.now tree.now mounts.now marks.old.marks last group flags mask path.now) }
+        ≡ marked groups.now tree.now mounts.now marks.old.marks last group flags mask path.now) }
     ensures whole { IsMarkList marks.new.marks }
     ensures err { OnErr result (marks.new.marks ≡ marks.old.marks) }
 {
-    let Some(place) = place_of_open_group(listeners, group) else {
+    let Some(listener) = groups.open_group(group) else {
         return Ok(Replied::refused(Errno::Ebadf));
     };
-    let listener = &listeners[place];
     let Ok(words) = mark_words(flags, mask, listener.init()) else {
         return Ok(Replied::refused(Errno::Einval));
     };

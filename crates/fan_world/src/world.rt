@@ -5,12 +5,11 @@ ghost use Rattle.fan_world.specs.World.{next, opening_world};
 use super::access::{Access, Opening};
 use super::accesses::{advance, begin};
 use super::batches::Retirement;
-use super::groups::{close_group, make_group, read_group, write_group};
+use super::groups::{Groups, close_group};
 use super::marking::mark;
 use super::tree_steps::{make_entry, make_fs, mount, umount};
 use fan_bits::Errno;
 use fan_io::NoMemory;
-use fan_listener::Listener;
 use fan_marks::MarkBook;
 use fan_mounts::Mounts;
 use fan_script::{Reply, Step};
@@ -24,7 +23,7 @@ pub struct World {
     alloc: Global,
     tree: Tree,
     mounts: Mounts,
-    listeners: Vec<Listener>,
+    groups: Groups,
     marks: MarkBook,
     retirement: Retirement,
     accesses: Vec<Access>,
@@ -42,7 +41,7 @@ impl Model for World {
       state = record {
         tree = w.tree;
         mounts = w.mounts;
-        listeners = w.listeners.items;
+        listeners = w.groups;
         marks = w.marks.marks;
         retirement = w.retirement.state;
         accesses = w.accesses.items;
@@ -54,7 +53,7 @@ impl Model for World {
     ghost invariant = { λ w. IsKept w.steps (record {
       tree = w.tree;
       mounts = w.mounts;
-      listeners = w.listeners.items;
+      listeners = w.groups;
       marks = w.marks.marks;
       retirement = w.retirement.state;
       accesses = w.accesses.items;
@@ -71,7 +70,7 @@ impl World {
             alloc,
             tree: Tree::new(alloc)?,
             mounts: Mounts::new(alloc)?,
-            listeners: Vec::new(alloc),
+            groups: Groups::new(alloc),
             marks: MarkBook::new(alloc)?,
             retirement: Retirement::new(alloc),
             accesses: Vec::new(alloc),
@@ -118,7 +117,7 @@ impl World {
                 self.retirement.note(done, self.last_access)
             }
             Step::Limit { .. } => Reply::Refused(Errno::Einval),
-            Step::Init { flags } => make_group(self.alloc, &mut self.listeners, *flags)?,
+            Step::Init { flags } => self.groups.make(*flags)?,
             Step::Mark {
                 group,
                 flags,
@@ -127,7 +126,7 @@ impl World {
             } => {
                 self.retirement.reserve()?;
                 let done = mark(
-                    &self.listeners,
+                    &self.groups,
                     &self.tree,
                     &self.mounts,
                     &mut self.marks,
@@ -162,17 +161,15 @@ impl World {
             }
             Step::Advance { access } => advance(
                 self.alloc,
-                &mut self.listeners,
+                &mut self.groups,
                 &mut self.accesses,
                 *access,
             )?,
-            Step::Read { group, size } => read_group(&mut self.listeners, *group, *size)?,
-            Step::Write { group, bytes } => {
-                write_group(&mut self.listeners, *group, bytes.as_slice())
-            }
+            Step::Read { group, size } => self.groups.read(*group, *size)?,
+            Step::Write { group, bytes } => self.groups.write(*group, bytes.as_slice()),
             Step::Close { group } => {
                 self.retirement.reserve()?;
-                let done = close_group(&mut self.listeners, &mut self.marks, *group);
+                let done = close_group(&mut self.groups, &mut self.marks, *group);
                 self.retirement.note(done, self.last_access)
             }
             Step::Grace => {

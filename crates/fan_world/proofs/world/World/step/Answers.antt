@@ -6,7 +6,7 @@ use Rattle.fan_world.proofs.world.World.step.Goals.{in-MkFile+in_ok-reply-in-MkF
 -- a state that steps make has few groups to ask and to tell
 pub begin-requires-clause-few : goal.begin-requires-clause-few
 begin-requires-clause-few c =
-    find_few (opens c.self.inside.listeners.items) c.self.inside.marks.marks c.self.invariant.sound.marked_well
+    find_few (opens c.self.inside.groups) c.self.inside.marks.marks c.self.invariant.sound.marked_well
 
 -- each step keeps what holds of the machine, by the clause of its handler
 pub invariant_of-self-2 : goal.invariant_of-self-2
@@ -22,11 +22,11 @@ invariant_of-self-2 c =
       | in-Umount+in_ok-reserve-in-Umount w ↦ rw w.self-inside-is (kept_umount count _ kept _ _ _ _ _ _ (rw w.deref.ensures.value at w.umount-done.ensures.done last) w.umount-done.ensures.whole)
       | in-Limit w ↦ rw w.self-inside-is (kept_tree count _ kept _ _ _)
       | in-Init+in_ok-reply-in-Init w ↦ rw w.self-inside-is (kept_init count _ kept _ _ _ w.in_ok-reply-in-Init.ensures.ok)
-      | in-Mark+in_ok-reserve-in-Mark+in_ok-done-in-Mark w ↦ rw w.self-inside-is (kept_mark count _ kept _ _ _ _ _ _ _ _ (rw w.deref-in-Mark.ensures.value at w.in_ok-done-in-Mark.ensures.ok last) w.in_ok-done-in-Mark.ensures.whole)
+      | in-Mark+in_ok-reserve-in-Mark+in_ok-done-in-Mark w ↦ rw w.self-inside-is (kept_mark count _ kept _ _ _ _ _ _ _ _ (w.in_ok-done-in-Mark.ensures.ok last) w.in_ok-done-in-Mark.ensures.whole)
       | in-Begin+in_ok-reserve-in-Begin+in_ok-done-in-Begin w ↦ rw w.self-inside-is (kept_begin count _ kept _ _ _ _ _ _ w.in_ok-done-in-Begin.ensures.ok w.in_ok-done-in-Begin.ensures.whole)
       | in-Advance+in_ok-reply-in-Advance w ↦ rw w.self-inside-is (kept_advance count _ kept _ _ _ _ w.in_ok-reply-in-Advance.ensures.ok)
       | in-Read+in_ok-reply-in-Read w ↦ rw w.self-inside-is (kept_read count _ kept _ _ _ _ w.in_ok-reply-in-Read.ensures.ok)
-      | in-Write w ↦ rw w.self-inside-is (kept_write count _ kept _ _ _ _ w.write_group-reply.ensures)
+      | in-Write w ↦ rw w.self-inside-is (kept_write count _ kept _ _ _ _ w.write-reply.ensures)
       | in-Close+in_ok-reserve-in-Close w ↦ rw w.self-inside-is (kept_close count _ kept _ _ _ _ _ _ (w.close_group-done.ensures.done last) w.close_group-done.ensures.whole)
       | in-Grace w ↦ rw w.self-inside-is (kept_tree count _ kept _ _ _)
     ]
