@@ -7,6 +7,7 @@ pub mod Counting
 pub mod Freed
 pub mod Kept
 pub mod OpenAccess
+pub mod OpenCount
 pub mod Opens
 pub mod Passing
 pub mod Reclaimed

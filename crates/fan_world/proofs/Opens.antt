@@ -92,7 +92,7 @@ slice_get-append [] ys i x here = absurd cc
 slice_get-append (z ∷ zs) ys zero x here = here
 slice_get-append (z ∷ zs) ys (suc i) x here = slice_get-append zs ys i x here
 
-opens-set : (listeners : List ListenerState) (place : ℕ) (old new : ListenerState)
+pub opens-set : (listeners : List ListenerState) (place : ℕ) (old new : ListenerState)
     → slice_get listeners place ≡ Some old → opened new ≡ opened old
     → opens (set listeners place new) ≡ opens listeners
 opens-set [] place old new here same = refl

@@ -5,7 +5,6 @@ use Rattle.std.proofs.lemmas.Bool.{ltb-true}
 use Rattle.std.proofs.lemmas.Bool.Decides.{nat_tests}
 use Rattle.std.proofs.lemmas.List.{map-append, map-set}
 use Rattle.std.proofs.lemmas.List.Elements.{All-filter, All-nil, All-push, All-weaker, filter_passes}
-use Rattle.std.proofs.lemmas.List.Sums.{sum_by-append}
 use Rattle.fan_bits.specs.declared.change.Change.TheVariants.{DropGroup}
 use Rattle.fan_bits.specs.declared.errno.Errno.TheVariants as errno
 use Rattle.fan_bits.specs.declared.mark.Mark.{Mark}
@@ -45,6 +44,7 @@ use Rattle.fan_world.specs.Tree.{unmounted_at}
 use Rattle.fan_world.specs.World.{Begun, WorldState, opening_world, next, grouped, is_open, most_groups, queue_limit, begins, begun_by, after_step, advanced, advanced_at, read_answer, read_at, read_from, write_answer, written_at, written_to, closed_at, closed_group}
 use Rattle.fan_world.proofs.Asked.{few_groups}
 use Rattle.fan_world.proofs.Begins.{begun_cases}
+use Rattle.fan_world.proofs.OpenCount.{open_added}
 use Rattle.fan_world.proofs.Opens.{count_by-closed, count_by-opens, slice_get-set_other, slice_get-append, opens-with_listener, opened-put, opened-answer_of, opened-read_of, opened-written}
 use Rattle.fan_world.proofs.Passing.{either, All-change_first, All-find, All-without_first}
 use Rattle.fan_world.proofs.Standing.{IsOpenAt, open_at, leaves_for, leaves_unmounted, stand_seen}
@@ -72,13 +72,9 @@ sound_unmounted groups tree mounts marks accesses last path sound =
 
 one_more : (listeners : List ListenerState) (flags : ℕ) → count_by is_open listeners < most_groups
     → count_by is_some (opens (listeners ++ new_listener flags queue_limit ∷ [])) ≤ most_groups
-unfolding new_listener
 one_more listeners flags room =
-    let new = new_listener flags queue_limit in
-    let counted = count_by-opens (listeners ++ new ∷ []) in
-    let added : count_by is_open (listeners ++ new ∷ []) ≡ count_by is_open listeners + 1 =
-    sum_by-append (λ listener. cond (is_open listener) 1 0) listeners (new ∷ []) in
-    omega (arith, counted, added, room)
+    let counted = count_by-opens (listeners ++ new_listener flags queue_limit ∷ []) in
+    omega (arith, counted, open_added listeners flags queue_limit, room)
 
 sound_new : (listeners : List ListenerState) (marks : List Mark) (flags : ℕ)
     → count_by is_open listeners < most_groups → AreSound (opens listeners) marks

@@ -1,6 +1,6 @@
 -- What one step of the machine does at a place, over plain values.
 use Rattle.std.proofs.Common.{◌≡◌, ℕ, zero, suc, ◌+◌, List, [], ◌∷◌, Bool, true, false, cond, Option, Some, None, Err, refl, sym, ap, ◌∙◌, set, get_or}
-use Rattle.std.specs.Prelude.{slice_get, slice_set, find, position, remove, IfSome}
+use Rattle.std.specs.Prelude.{slice_get, slice_set, find, position, remove}
 use Rattle.fan_bits.specs.declared.errno.Errno.{Errno}
 use Rattle.fan_bits.specs.declared.errno.Errno.TheVariants as errno
 use Rattle.fan_listener.specs.declared.answers.ReadRefused.{ReadRefused}
@@ -12,7 +12,7 @@ use Rattle.fan_script.specs.declared.reply.Reply.TheVariants as replies
 use Rattle.fan_script.specs.declared.reply.StepOutcome.{StepOutcome}
 use Rattle.fan_listener.proofs.FirstLemmas.{find_none, found_at, changed_at, removed_at}
 use Rattle.fan_world.specs.Accesses.{AccessState, access_step, has_number, kept_access}
-use Rattle.fan_world.specs.World.{advanced, after_step, read_answer, read_errno, write_answer, write_errno}
+use Rattle.fan_world.specs.World.{advanced, after_step, read_at, read_errno, write_errno, written_at}
 
 -- what is at a place, written back, changes nothing
 pub set_same : {A : Type 0} (xs : List A) (place : ℕ) (x : A) → slice_get xs place ≡ Some x → set xs place x ≡ xs
@@ -21,14 +21,24 @@ set_same (y ∷ ys) zero x here = let same : y ≡ x = cc in ap (λ z. z ∷ ys)
 set_same (y ∷ ys) (suc place) x here = ap (λ zs. y ∷ zs) (set_same ys place x here)
 
 -- a read that is refused writes the listener back as it was
-pub read_refused : (place size : ℕ) (listeners : List ListenerState) (listener after : ListenerState) (why : ReadRefused) (name : Errno) → slice_get listeners place ≡ Some listener → after ≡ listener → read_of listener size ≡ Err why → name ≡ read_errno why → IfSome (slice_get listeners place) (λ found. (replies.Refused name, slice_set listeners place after) ≡ read_answer (read_of found size) listeners (place + 1))
-read_refused place size listeners listener after why name here same refused is =
-    rw (here, refused, same, is) (ap (λ (ls : List ListenerState). (replies.Refused (read_errno why), ls)) (set_same listeners place listener here))
+pub read_refused : (place size : ℕ) (listeners : List ListenerState) (listener after : ListenerState)
+    (why : ReadRefused) (name : Errno)
+    → slice_get listeners place ≡ Some listener → after ≡ listener → read_of listener size ≡ Err why
+    → name ≡ read_errno why
+    → (replies.Refused name, slice_set listeners place after)
+    ≡ read_at (slice_get listeners place) listeners (place + 1) size
+read_refused place size listeners listener after why name here same refused is = rw (here, refused, same, is)
+    (ap (λ (ls : List ListenerState). (replies.Refused (read_errno why), ls)) (set_same listeners place listener here))
 
 -- a response that is refused writes the listener back as it was
-pub write_refused : (place : ℕ) (bytes : List ℕ) (listeners : List ListenerState) (listener after : ListenerState) (why : WriteRefused) (name : Errno) → slice_get listeners place ≡ Some listener → after ≡ listener → written listener bytes ≡ Err why → name ≡ write_errno why → IfSome (slice_get listeners place) (λ found. (replies.Refused name, slice_set listeners place after) ≡ write_answer (written found bytes) listeners (place + 1))
-write_refused place bytes listeners listener after why name here same refused is =
-    rw (here, refused, same, is) (ap (λ (ls : List ListenerState). (replies.Refused (write_errno why), ls)) (set_same listeners place listener here))
+pub write_refused : (place : ℕ) (bytes : List ℕ) (listeners : List ListenerState)
+    (listener after : ListenerState) (why : WriteRefused) (name : Errno)
+    → slice_get listeners place ≡ Some listener → after ≡ listener → written listener bytes ≡ Err why
+    → name ≡ write_errno why
+    → (replies.Refused name, slice_set listeners place after)
+    ≡ written_at (slice_get listeners place) listeners (place + 1) bytes
+write_refused place bytes listeners listener after why name here same refused is = rw (here, refused, same, is)
+    (ap (λ (ls : List ListenerState). (replies.Refused (write_errno why), ls)) (set_same listeners place listener here))
 
 remove_set : {A : Type 0} (xs : List A) (place : ℕ) (x : A) → remove (set xs place x) place ≡ remove xs place
 remove_set [] place x = refl

@@ -13,12 +13,12 @@ ghost use Rattle.fan_world.specs.World.{advanced, begins, begun, begun_by, deed_
 use super::access::{Access, Deed, Opening};
 use super::batches::Replied;
 use super::files::Files;
+use super::groups::Groups;
 use super::interests::room_for_groups;
 use super::marks::{Marks, retire};
 use super::stepping::step;
 use fan_bits::{Change, Errno, Place};
 use fan_io::{Items, NoMemory};
-use fan_listener::Listener;
 use fan_marks::MarkBook;
 use fan_script::{OpWord, Reply, StepOutcome};
 use std::alloc::Global;
@@ -224,14 +224,14 @@ fn place_of_access(accesses: &[Access], number: u32) -> Option<usize>
 #[tactic(auto, unfolding(crate::specs::World::advanced))]
 pub(crate) fn advance(
     alloc: Global,
-    listeners: &mut Vec<Listener>,
+    groups: &mut Groups,
     accesses: &mut Vec<Access>,
     number: u32,
 ) -> Result<Reply, NoMemory>
-    requires { AreBounded (2 ^ 30) listeners.old.items }
-    ensures ok { IfOk result (λ reply. (reply, listeners.new.items, accesses.new.items)
-        ≡ advanced listeners.old.items accesses.old.items number) }
-    ensures listeners { OnErr result (listeners.new.items ≡ listeners.old.items) }
+    requires { AreBounded (2 ^ 30) groups.old }
+    ensures ok { IfOk result (λ reply. (reply, groups.new, accesses.new.items)
+        ≡ advanced groups.old accesses.old.items number) }
+    ensures groups { OnErr result (groups.new ≡ groups.old) }
     ensures accesses { OnErr result (accesses.new.items ≡ accesses.old.items) }
 {
     let Some(place) = place_of_access(accesses, number) else {
@@ -239,7 +239,7 @@ pub(crate) fn advance(
     };
     let outcomes = vec![in alloc; StepOutcome::Done]?;
     let access = &mut accesses[place];
-    let outcome = step(listeners, access)?;
+    let outcome = step(groups, access)?;
     if is_finished(outcome) {
         let _ = accesses.remove(place);
     }

@@ -9,6 +9,7 @@ mod files;
 mod groups;
 mod interests;
 mod laws;
+mod listeners;
 mod marks;
 mod reclaim_law;
 mod run_law;

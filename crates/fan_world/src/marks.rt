@@ -12,7 +12,7 @@ ghost use Rattle.fan_world.specs.Sound.{IsOpenAs, Stands, opens};
 
 use super::batches::{Replied, Retirement};
 use super::files::Files;
-use super::groups::place_of_open_group;
+use super::groups::Groups;
 use fan_bits::{Change, Errno, MarkWords, Place, Verb, mark_words};
 use fan_io::NoMemory;
 use fan_listener::Listener;
@@ -136,26 +136,25 @@ fn put_on(
 // Changes the marks of a group: EBADF, EINVAL, the walk, ENOTDIR, ENOENT, ENOSPC.
 #[tactic(auto, unfolding(crate::specs::Marking::marked, crate::specs::Batches::retired_by))]
 fn change_marks(
-    listeners: &[Listener],
+    groups: &Groups,
     files: &Files,
     book: &mut MarkBook,
     line: MarkLine,
     path: &[u8],
 ) -> Result<Replied, NoMemory>
-    requires classes { All (Stands (opens listeners.now)) book.old.marks }
+    requires classes { All (Stands (opens groups.now)) book.old.marks }
     requires whole { IsMarkList book.old.marks }
     ensures ok { IfOk result (λ done. (last : ℕ) →
         (done.reply, book.new.marks, noted done.retired last)
-        ≡ marked listeners.now files.now.tree files.now.mounts book.old.marks last
+        ≡ marked groups.now files.now.tree files.now.mounts book.old.marks last
         line.group line.flags line.mask path.now) }
     ensures whole { IsMarkList book.new.marks }
     ensures err { OnErr result (book.new.marks ≡ book.old.marks) }
 {
     let group = line.group;
-    let Some(place) = place_of_open_group(listeners, group) else {
+    let Some(listener) = groups.open_group(group) else {
         return Ok(Replied::refused(Errno::Ebadf));
     };
-    let listener = &listeners[place];
     let Ok(words) = mark_words(line.flags, line.mask, listener.init()) else {
         return Ok(Replied::refused(Errno::Einval));
     };
@@ -172,23 +171,23 @@ fn change_marks(
 
 /// Changes the marks of a group: EBADF, EINVAL, the walk, ENOTDIR, ENOENT, ENOSPC.
 pub(crate) fn mark(
-    listeners: &[Listener],
+    groups: &Groups,
     files: &Files,
     marks: &mut Marks,
     last: u32,
     line: MarkLine,
     path: &[u8],
 ) -> Result<Reply, NoMemory>
-    requires classes { All (Stands (opens listeners.now)) marks.old.book.marks }
+    requires classes { All (Stands (opens groups.now)) marks.old.book.marks }
     requires whole { IsMarkList marks.old.book.marks }
     ensures ok { IfOk result (λ reply. (reply, marks.new.book.marks, marks.new.retirement.state)
-        ≡ marked_with marks.old.retirement.state (marked listeners.now files.now.tree
+        ≡ marked_with marks.old.retirement.state (marked groups.now files.now.tree
         files.now.mounts marks.old.book.marks last line.group line.flags line.mask path.now)) }
     ensures whole { IsMarkList marks.new.book.marks }
     ensures marks { OnErr result (marks.new.book.marks ≡ marks.old.book.marks) }
     ensures retirement { OnErr result (marks.new.retirement.state ≡ marks.old.retirement.state) }
 {
     marks.retirement.reserve()?;
-    let done = change_marks(listeners, files, &mut marks.book, line, path)?;
+    let done = change_marks(groups, files, &mut marks.book, line, path)?;
     Ok(marks.retirement.note(done, last))
 }

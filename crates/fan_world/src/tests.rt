@@ -6,14 +6,23 @@ use std::alloc::Global;
 use std::process::Abort;
 use std::test::Fail;
 
-// Checks what a new machine answers to each line. A run has an answer of each single step.
+// Checks what a new machine answers to each line.
 fn assert_answers(rt: &impl Abort, alloc: Global, rows: &[(&str, &str)]) -> Result<(), Fail> {
-    let mut world = World::new(alloc)?;
+    assert_further(rt, alloc, &mut World::new(alloc)?, rows)
+}
+
+// Checks what a machine answers to each further line. A run has an answer of each single step.
+fn assert_further(
+    rt: &impl Abort,
+    alloc: Global,
+    world: &mut World,
+    rows: &[(&str, &str)],
+) -> Result<(), Fail> {
     for (line, wanted) in rows {
         let mut out = String::new(alloc);
         match read_line(alloc, line.as_bytes())? {
-            Line::One(step) => show(&reply_to(rt, &mut world, &step)?, &mut out)?,
-            Line::Run(access) => run(rt, &mut world, access, &mut out)?,
+            Line::One(step) => show(&reply_to(rt, world, &step)?, &mut out)?,
+            Line::Run(access) => run(rt, world, access, &mut out)?,
         }
         assert_eq!(rt; out.as_str(), *wanted, "at {line}");
     }
@@ -257,4 +266,21 @@ fn an_access_decides_by_the_marks_of_its_begin(rt: HostRuntime) -> Result<(), Fa
         ("run 2", "[Asked(2)][Blocked(2)]"),
     ];
     assert_answers(&rt, rt.alloc(), &rows)
+}
+
+#[test]
+fn a_group_may_be_made_for_one_of_128_that_is_closed(rt: HostRuntime) -> Result<(), Fail> {
+    let mut world = World::new(rt.alloc())?;
+    for _ in 0..127 {
+        let _ = reply_to(&rt, &mut world, &Step::Init { flags: 0 })?;
+    }
+    let rows = [
+        ("init 0", "Group(128)"),
+        ("init 0", "Refused(Emfile)"),
+        ("close 5", "Done"),
+        ("close 5", "Refused(Ebadf)"),
+        ("init 0", "Group(129)"),
+        ("init 0", "Refused(Emfile)"),
+    ];
+    assert_further(&rt, rt.alloc(), &mut world, &rows)
 }

@@ -5,11 +5,10 @@ ghost use Rattle.fan_world.specs.World.{next, opening_world};
 use super::access::{Access, Opening};
 use super::accesses::{advance, begin};
 use super::files::{Files, umount};
-use super::groups::{close_group, make_group, read_group, write_group};
+use super::groups::{Groups, close_group};
 use super::marks::{MarkLine, Marks, mark};
 use fan_bits::Errno;
 use fan_io::NoMemory;
-use fan_listener::Listener;
 use fan_script::{Reply, Step};
 use std::alloc::Global;
 use std::marker::Model;
@@ -19,7 +18,7 @@ use std::marker::Model;
 pub struct World {
     alloc: Global,
     files: Files,
-    listeners: Vec<Listener>,
+    groups: Groups,
     marks: Marks,
     accesses: Vec<Access>,
     last_access: u32,
@@ -36,7 +35,7 @@ impl Model for World {
       state = record {
         tree = w.files.tree;
         mounts = w.files.mounts;
-        listeners = w.listeners.items;
+        listeners = w.groups;
         marks = w.marks.book.marks;
         retirement = w.marks.retirement.state;
         accesses = w.accesses.items;
@@ -48,7 +47,7 @@ impl Model for World {
     ghost invariant = { λ w. IsKept w.steps (record {
       tree = w.files.tree;
       mounts = w.files.mounts;
-      listeners = w.listeners.items;
+      listeners = w.groups;
       marks = w.marks.book.marks;
       retirement = w.marks.retirement.state;
       accesses = w.accesses.items;
@@ -64,7 +63,7 @@ impl World {
         Ok(World {
             alloc,
             files: Files::new(alloc)?,
-            listeners: Vec::new(alloc),
+            groups: Groups::new(alloc),
             marks: Marks::new(alloc)?,
             accesses: Vec::new(alloc),
             last_access: 0,
@@ -103,7 +102,7 @@ impl World {
                 )?
             }
             Step::Limit { .. } => Reply::Refused(Errno::Einval),
-            Step::Init { flags } => make_group(self.alloc, &mut self.listeners, *flags)?,
+            Step::Init { flags } => self.groups.make(*flags)?,
             Step::Mark {
                 group,
                 flags,
@@ -116,7 +115,7 @@ impl World {
                     mask: *mask,
                 };
                 mark(
-                    &self.listeners,
+                    &self.groups,
                     &self.files,
                     &mut self.marks,
                     last,
@@ -144,14 +143,12 @@ impl World {
                 )?
             }
             Step::Advance { access } => {
-                advance(self.alloc, &mut self.listeners, &mut self.accesses, *access)?
+                advance(self.alloc, &mut self.groups, &mut self.accesses, *access)?
             }
-            Step::Read { group, size } => read_group(&mut self.listeners, *group, *size)?,
-            Step::Write { group, bytes } => {
-                write_group(&mut self.listeners, *group, bytes.as_slice())
-            }
+            Step::Read { group, size } => self.groups.read(*group, *size)?,
+            Step::Write { group, bytes } => self.groups.write(*group, bytes.as_slice()),
             Step::Close { group } => {
-                close_group(&mut self.listeners, &mut self.marks, last, *group)?
+                close_group(&mut self.groups, &mut self.marks, last, *group)?
             }
             Step::Grace => { Reply::Reclaimed(self.marks.retirement.grace(&self.accesses, last)) }
         };

@@ -15,4 +15,4 @@ returns-clause-ok c =
       | then-is_finished w ↦ rw (w.accesses-is, w.if-is_finished.true) w.remove.ensures.items
       | else-is_finished w ↦ rw (w.accesses-is, w.if-is_finished.false) refl
     ] in
-    rw c.reply_of.ensures (advances c.is_finished.result c.args.number c.in-Some.place c.index_mut-access.result.now new accesses _ c.args.listeners.now.items _ c.in_ok-outcome.outcome (sym (rw c.deref.ensures.value at c.in-Some.ensures.found)) (search rules) c.in_ok-outcome.ensures.ok (c.is_finished.ensures new) left)
+    rw c.reply_of.ensures (advances c.is_finished.result c.args.number c.in-Some.place c.index_mut-access.result.now new accesses _ c.args.groups.now _ c.in_ok-outcome.outcome (sym (rw c.deref.ensures.value at c.in-Some.ensures.found)) (search rules) c.in_ok-outcome.ensures.ok (c.is_finished.ensures new) left)
