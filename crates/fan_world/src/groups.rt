@@ -12,7 +12,9 @@ ghost use Rattle.fan_world.specs.World.{closed_group, grouped, read_from, writte
 use super::access::Access;
 use super::batches::Replied;
 use super::interests::MOST_GROUPS;
-use super::listeners::{answer_at, ask_at, close_at, place_of_group, place_of_open_group, read_at, tell_at, write_at};
+use super::listeners::{
+    answer_at, ask_at, close_at, place_of_group, place_of_open_group, read_at, tell_at, write_at,
+};
 use super::marking::retire;
 use fan_bits::{Change, Errno, init_words};
 use fan_io::NoMemory;

@@ -11,10 +11,7 @@ use fan_script::StepOutcome;
 
 /// Does the single step of an access. Nothing changes where memory runs out.
 #[tactic(auto, unfolding(crate::specs::Accesses::access_step))]
-pub(crate) fn step(
-    groups: &mut Groups,
-    access: &mut Access,
-) -> Result<StepOutcome, NoMemory>
+pub(crate) fn step(groups: &mut Groups, access: &mut Access) -> Result<StepOutcome, NoMemory>
     requires { AreBounded (2 ^ 30) groups.old }
     ensures ok { IfOk result
         (λ outcome. (outcome, groups.new, kept_access outcome access.new)
@@ -58,11 +55,7 @@ fn look(groups: &mut Groups, access: &mut Access, asked: WaitingFor) -> StepOutc
 
 // Asks a group.
 #[tactic(auto, unfolding(crate::specs::Accesses::asked_next))]
-fn ask(
-    groups: &mut Groups,
-    access: &mut Access,
-    group: u32,
-) -> Result<StepOutcome, NoMemory>
+fn ask(groups: &mut Groups, access: &mut Access, group: u32) -> Result<StepOutcome, NoMemory>
     requires bounded { AreBounded (2 ^ 30) groups.old }
     requires unsettled { access.old.settled < length (asks access.old) }
     ensures ok { IfOk result
@@ -89,11 +82,7 @@ fn ask(
 
 // Tells a group.
 #[tactic(auto, unfolding(crate::specs::Accesses::told_next))]
-fn tell(
-    groups: &mut Groups,
-    access: &mut Access,
-    group: u32,
-) -> Result<StepOutcome, NoMemory>
+fn tell(groups: &mut Groups, access: &mut Access, group: u32) -> Result<StepOutcome, NoMemory>
     requires bounded { AreBounded (2 ^ 30) groups.old }
     requires untold { access.old.told < length (tells access.old) }
     ensures ok { IfOk result
