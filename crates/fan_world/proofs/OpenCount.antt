@@ -1,5 +1,5 @@
 -- How many groups are open, after each call of the listener at a place.
-use Rattle.std.proofs.Common.{◌≡◌, ℕ, zero, suc, ◌+◌, List, [], ◌∷◌, ◌++◌, Bool, true, false, cond, Option, Some, None, Result, Ok, Err, refl, sym, ap, ◌∙◌, arith, set, not}
+use Rattle.std.proofs.Common.{◌≡◌, ℕ, zero, suc, ◌+◌, List, [], ◌∷◌, ◌++◌, Bool, true, false, cond, Some, Result, Ok, Err, refl, sym, ap, ◌∙◌, arith, set, not}
 use Rattle.std.specs.Prelude.{slice_get, count_by, is_some, IfOk, OnErr}
 use Rattle.std.proofs.lemmas.List.Sums.{sum_by-append, sum_by-cons}
 use Rattle.fan_io.specs.declared.NoMemory.{NoMemory}
@@ -11,7 +11,7 @@ use Rattle.fan_listener.specs.ListenerState.{ListenerState, new_listener}
 use Rattle.fan_listener.specs.Queue.{put}
 use Rattle.fan_listener.specs.Records.{read_of}
 use Rattle.fan_listener.specs.Responses.{written, answer_of, closed_of}
-use Rattle.fan_world.specs.Sound.{opened, opens}
+use Rattle.fan_world.specs.Sound.{opened}
 use Rattle.fan_world.specs.World.{is_open}
 use Rattle.fan_world.proofs.Opens.{count_by-opens, opens-set, opened-put, opened-answer_of, opened-read_of, opened-written}
 
@@ -48,15 +48,14 @@ module _ (listeners : List ListenerState) (place : ℕ) (old new : ListenerState
       open_same (ap (λ (r : Put × ListenerState). opened r.1) is ∙ opened-put old event)
   open_put event (Err none) is stays = open_same (ap (λ l. opened l) stays)
 
-counted_first : (listener : ListenerState) (more : List ListenerState)
-    → count_by is_open (listener ∷ more) ≡ cond (not listener.closed) 1 0 + count_by is_open more
-counted_first listener more = sum_by-cons (λ l. cond (is_open l) 1 0) listener more
-
+-- one listener more, which is closed or not
 counted_as : (listener : ListenerState) (more : List ListenerState) (closed : Bool) → listener.closed ≡ closed
     → count_by is_open (listener ∷ more) ≡ cond (not closed) 1 0 + count_by is_open more
 counted_as listener more closed is =
-    counted_first listener more ∙ ap (λ b. cond (not b) 1 0 + count_by is_open more) is
+    sum_by-cons (λ l. cond (is_open l) 1 0) listener more
+    ∙ ap (λ b. cond (not b) 1 0 + count_by is_open more) is
 
+-- what a close leaves is closed
 closed-closed_of : (listener : ListenerState) → (closed_of listener).closed ≡ true
 unfolding closed_of
 closed-closed_of listener = refl
@@ -74,11 +73,11 @@ open_closed (listener ∷ more) zero old new here was is =
 open_closed (listener ∷ more) (suc place) old new here was is = omega (
   arith,
   open_closed more place old new here was is,
-  counted_first listener more,
-  counted_first listener (set more place new),
+  counted_as listener more listener.closed refl,
+  counted_as listener (set more place new) listener.closed refl,
 )
 
--- and one more with a new listener
+-- one listener more is open with a new one
 pub open_added : (listeners : List ListenerState) (flags limit : ℕ)
     → count_by is_open (listeners ++ new_listener flags limit ∷ []) ≡ count_by is_open listeners + 1
 unfolding new_listener
