@@ -30,7 +30,8 @@ pub record IsNext (marks : List Mark) (object after : ℕ) (mark : Mark) : Type 
   pub among : IsAmong marks mark
   pub on : mark.object ≡ object
   pub behind : after < order_of mark
-  pub first : All (λ other. is_behind object (order_of mark) other ≡ false → is_behind object after other ≡ true
+  pub first : All (λ other. is_behind object (order_of mark) other ≡ false
+      → is_behind object after other ≡ true
       → other ≡ mark) marks
 
 test_on : (object after : ℕ) (mark : Mark) → (mark.object == object && nat_lt after (order_of mark)) ≡ true
@@ -69,7 +70,8 @@ next_found object after (x ∷ xs) mark rises found =
             first = All-cons (First x) x xs (λ out more. refl)
                 (All-weaker (IsBefore x) (First x)
                 (λ y next out more. absurd
-                (contrary (is_behind object (order_of x) y) (behind_first object x y tells.0 next) out)) xs rises.0);
+                (contrary (is_behind object (order_of x) y) (behind_first object x y tells.0 next) out))
+                xs rises.0);
           })
       | false ↦ λ fails found.
           let rest = next_found object after xs mark rises.1 found in
@@ -119,7 +121,8 @@ All-replaced P Q (x ∷ xs) mark others rises is each all new =
     let p : Mark → Bool = is_before mark.object (order_of mark) in
     elim (p x) as (λ test. p x ≡ test
     → All P (spliced (x ∷ xs) (length (cond test (x ∷ filter p xs) (filter p xs))) 1 others)) [
-      | true ↦ λ passes. let other : same_mark mark x ≡ false = not_same p mark x (itself_before mark) passes in
+      | true ↦ λ passes. let other : same_mark mark x ≡ false =
+          not_same p mark x (itself_before mark) passes in
           All-cons P x (spliced xs (length (filter p xs)) 1 others) (each x (All-head Q x xs all) other)
           (All-replaced P Q xs mark others rises.1 (rw other at is) each (All-tail Q x xs all) new)
       | false ↦ λ fails.
@@ -163,7 +166,8 @@ done_cleared marks object after mark rises next done =
     (λ m its other. done_more object after (order_of mark) m mark its.0 its.1
     (λ same. absurd (contrary (same_mark mark m) (rw same (same_mark_self mark)) other)))
     (λ k d within. (done k d within, next.first k d within))
-    (standing_all (IsDone object (order_of mark)) (cleared object mark) (λ out. cleared_remembers object mark))
+    (standing_all (IsDone object (order_of mark)) (cleared object mark)
+    (λ out. cleared_remembers object mark))
 
 behind_own : (mark y : Mark) → IsBefore mark y → is_behind mark.object (order_of mark) y ≡ true
 behind_own mark y next = grind (arith, nat_tests)
@@ -205,8 +209,20 @@ cleared_put : (object : ℕ) (mark : Mark) → IsMark mark
 cleared_put object mark is =
     elim (mark.object == object && not mark.survives) as
     (λ test. IsPut mark.group mark.class mark.object (cond test (record mark { ignored = 0 }) mark)) [
-      | true ↦ record { group_is = refl; class_is = refl; object_is = refl; mask = is.mask; ignored = omega arith }
-      | false ↦ record { group_is = refl; class_is = refl; object_is = refl; mask = is.mask; ignored = is.ignored }
+      | true ↦ record {
+        group_is = refl;
+        class_is = refl;
+        object_is = refl;
+        mask = is.mask;
+        ignored = omega arith;
+      }
+      | false ↦ record {
+        group_is = refl;
+        class_is = refl;
+        object_is = refl;
+        mask = is.mask;
+        ignored = is.ignored;
+      }
     ]
 
 -- with a mark cleared, or gone, a list of marks is still one
@@ -217,7 +233,8 @@ IsMarkList-forgot marks object mark list is =
     let its : IsMark mark = among IsMark marks mark is list.each in
     let agrees : AgreesWith marks mark = among (AgreesWith marks) marks mark is list.classes in
     rw (spliced_placed marks mark (listed (standing (cleared object mark))) list.rises is)
-    (IsMarkList-placed marks mark.group mark.class mark.object (standing (cleared object mark)) its.group its.object
+    (IsMarkList-placed marks mark.group mark.class mark.object (standing (cleared object mark)) its.group
+    its.object
     (class_all marks mark mark.group mark.class agrees refl refl)
     (standing_is (cleared object mark) mark.group mark.class mark.object (cleared_put object mark its)) list)
 
@@ -225,7 +242,8 @@ cleared_twice : (object : ℕ) (mark : Mark) → cleared object (cleared object 
 cleared_twice object mark =
     elim (mark.object == object && not mark.survives) as
     (λ test. (mark.object == object && not mark.survives) ≡ test
-    → cleared object (cond test (record mark { ignored = 0 }) mark) ≡ cond test (record mark { ignored = 0 }) mark) [
+    → cleared object (cond test (record mark { ignored = 0 }) mark)
+    ≡ cond test (record mark { ignored = 0 }) mark) [
       | true ↦ λ is. rw is refl
       | false ↦ λ is. rw is refl
     ] refl
@@ -299,7 +317,8 @@ forgot_count marks object mark rises is its =
 none_found : (p : Mark → Bool) (marks : List Mark) → find p marks ≡ None → All (λ mark. p mark ≡ false) marks
 none_found p [] none = All-nil (λ mark. p mark ≡ false)
 none_found p (x ∷ xs) none =
-    elim (p x) as (λ test. p x ≡ test → cond test (Some x) (find p xs) ≡ None → All (λ mark. p mark ≡ false) (x ∷ xs)) [
+    elim (p x) as (λ test. p x ≡ test → cond test (Some x) (find p xs) ≡ None
+    → All (λ mark. p mark ≡ false) (x ∷ xs)) [
       | true ↦ λ is none. absurd cc
       | false ↦ λ fails none. All-cons (λ mark. p mark ≡ false) x xs fails (none_found p xs none)
     ] refl none
@@ -344,7 +363,8 @@ first_behind object mark some here out = grind (arith, nat_tests)
 pub none_done : (marks : List Mark) (object : ℕ) → IsMarkList marks → All (IsDone object 0) marks
 none_done marks object list = λ k d within out.
     let mark = get_or marks k d in
-    let some : 0 < order_of mark = order_above (rank_of mark.class) mark.group (list.each k d within).group.0 in
+    let some : 0 < order_of mark =
+    order_above (rank_of mark.class) mark.group (list.each k d within).group.0 in
     elim (mark.object == object) as (λ test. (mark.object == object) ≡ test → forgets object mark ≡ false) [
       | true ↦ λ here. absurd (first_behind object mark some here out)
       | false ↦ λ other. rw other refl

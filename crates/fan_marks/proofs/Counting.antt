@@ -21,7 +21,8 @@ room_at_most None = omega arith
 room_at_most (Some room) = omega arith
 
 -- the marks of two lists are counted one list after the other
-pub count-append : (p : Mark → Bool) (xs ys : List Mark) → count_by p (xs ++ ys) ≡ count_by p xs + count_by p ys
+pub count-append : (p : Mark → Bool) (xs ys : List Mark)
+    → count_by p (xs ++ ys) ≡ count_by p xs + count_by p ys
 count-append p xs ys =
     sym (length-filter p (xs ++ ys)) ∙ ap length (filter-append p xs ys)
     ∙ length-append (filter p xs) (filter p ys)
@@ -96,7 +97,8 @@ count_of_any q (x ∷ xs) is =
 pub among_other : (xs ys : List Mark) → ((p : Mark → Bool) → count_by p xs ≡ count_by p ys) → (mark : Mark)
     → list_any (same_mark mark) xs ≡ true → list_any (same_mark mark) ys ≡ true
 among_other xs ys same mark is =
-    any_of_count (same_mark mark) ys (omega (arith, same (same_mark mark), count_of_any (same_mark mark) xs is))
+    any_of_count (same_mark mark) ys
+    (omega (arith, same (same_mark mark), count_of_any (same_mark mark) xs is))
 
 -- and what holds of each of the second holds of each of the first
 pub All-other : (P : Mark → Type 0) (xs ys : List Mark) → ((p : Mark → Bool) → count_by p xs ≡ count_by p ys)

@@ -23,8 +23,10 @@ pub parted_right : (p : Mark → Bool) (l : List Mark) (m : Mark) (r : List Mark
     → IsPartitionedBy p (l ++ m ∷ r) → IsPartitionedBy p r
 parted_right p l m r parted i j d most within is =
     let all : length l + suc j < length (l ++ m ∷ r) = omega (arith, length-append l (m ∷ r)) in
-    let first : get_or (l ++ m ∷ r) (length l + suc i) d ≡ get_or r i d = get_or-append-add l (m ∷ r) (suc i) d in
-    let second : get_or (l ++ m ∷ r) (length l + suc j) d ≡ get_or r j d = get_or-append-add l (m ∷ r) (suc j) d in
+    let first : get_or (l ++ m ∷ r) (length l + suc i) d ≡ get_or r i d =
+    get_or-append-add l (m ∷ r) (suc i) d in
+    let second : get_or (l ++ m ∷ r) (length l + suc j) d ≡ get_or r j d =
+    get_or-append-add l (m ∷ r) (suc j) d in
     rw (sym first) (parted (length l + suc i) (length l + suc j) d (omega arith) all (rw second is))
 
 before_pass : (p : Mark → Bool) (l : List Mark) (m : Mark) (r : List Mark) → IsPartitionedBy p (l ++ m ∷ r)
@@ -40,7 +42,8 @@ both_ways a true is up = sym (up refl) ∙ is
 both_ways a false is up = refl
 
 -- behind a mark that fails all fail
-pub behind_fail : (p : Mark → Bool) (l : List Mark) (m : Mark) (r : List Mark) → IsPartitionedBy p (l ++ m ∷ r)
+pub behind_fail : (p : Mark → Bool) (l : List Mark) (m : Mark) (r : List Mark)
+    → IsPartitionedBy p (l ++ m ∷ r)
     → p m ≡ false → All (λ mark. p mark ≡ false) r
 behind_fail p l m r parted fails k d within =
     let all : length l + suc k < length (l ++ m ∷ r) = omega (arith, length-append l (m ∷ r)) in
@@ -50,14 +53,16 @@ behind_fail p l m r parted fails k d within =
     (rw (get_or-append-add l (m ∷ r) (suc k) d) is)))
 
 -- where the mark passes, all before it do
-pub count_behind : (p : Mark → Bool) (l : List Mark) (m : Mark) (r : List Mark) → IsPartitionedBy p (l ++ m ∷ r)
+pub count_behind : (p : Mark → Bool) (l : List Mark) (m : Mark) (r : List Mark)
+    → IsPartitionedBy p (l ++ m ∷ r)
     → p m ≡ true → length (filter p (l ++ m ∷ r)) ≡ length l + 1 + length (filter p r)
 count_behind p l m r parted is =
     rw (filter-append p l (m ∷ r), is, filter_all p l (before_pass p l m r parted is))
     (length-append l (m ∷ filter p r) ∙ omega arith)
 
 -- where it fails, all behind it do
-pub count_before : (p : Mark → Bool) (l : List Mark) (m : Mark) (r : List Mark) → IsPartitionedBy p (l ++ m ∷ r)
+pub count_before : (p : Mark → Bool) (l : List Mark) (m : Mark) (r : List Mark)
+    → IsPartitionedBy p (l ++ m ∷ r)
     → p m ≡ false → length (filter p (l ++ m ∷ r)) ≡ length (filter p l)
 count_before p l m r parted fails =
     rw (filter-append p l (m ∷ r), fails, filter_none p r (behind_fail p l m r parted fails))

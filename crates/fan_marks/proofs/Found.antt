@@ -39,7 +39,8 @@ at_tells : (mark : Mark) (object : ℕ) (order : ℕ) → is_at object order mar
     → (mark.object ≡ object) × (order_of mark ≡ order)
 at_tells mark object order is = (grind (arith, nat_tests), grind (arith, nat_tests))
 
-some_of : (P : Mark → Type 0) (found : Option Mark) (mark : Mark) → found ≡ Some mark → IfSome found P → P mark
+some_of : (P : Mark → Type 0) (found : Option Mark) (mark : Mark) → found ≡ Some mark → IfSome found P
+    → P mark
 some_of P None mark is holds = absurd cc
 some_of P (Some other) mark is holds = let one : other ≡ mark = cc in rw (sym one) holds
 
@@ -68,7 +69,8 @@ at_class : (marks : List Mark) (group object : ℕ) (mark : Mark) → IsMarkList
     → find (is_at object (order_number mark.class group)) marks ≡ Some mark
 at_class marks group object mark list small found =
     let it : (AgreesWith marks mark) × ((mark.group == group && mark.object == object) ≡ true) =
-    some_of (λ mark. AgreesWith marks mark × ((mark.group == group && mark.object == object) ≡ true)) _ mark found
+    some_of (λ mark. AgreesWith marks mark × ((mark.group == group && mark.object == object) ≡ true))
+    _ mark found
     (find_all (λ mark. mark.group == group && mark.object == object) (AgreesWith marks) marks list.classes) in
     let its : mark.group ≡ group = of_tells mark group object it.1 in
     sym (mark_of_at marks group mark.class object list.each small

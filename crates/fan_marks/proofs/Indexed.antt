@@ -27,7 +27,8 @@ same_place (x ∷ xs) mark rises is =
     elim (same_mark mark x) as (λ test. same_mark mark x ≡ test → All Q (x ∷ xs)) [
       | true ↦ λ same. let one : mark ≡ x = same_mark_one mark x same in
           All-cons Q x xs (λ here. sym one)
-          (All-weaker (IsBefore x) Q (λ y before here. absurd (apart_later x y before (rw one at here))) xs rises.0)
+          (All-weaker (IsBefore x) Q (λ y before here. absurd (apart_later x y before (rw one at here)))
+          xs rises.0)
       | false ↦ λ other. let rest : IsAmong xs mark = rw other at is in
           All-cons Q x xs (λ here. absurd (apart x mark (among (IsBefore x) xs mark rest rises.0) here))
           (same_place xs mark rises.1 rest)
@@ -43,7 +44,8 @@ alone : (marks : List Mark) (mark : Mark) → IsMarkList marks → IsAmong marks
 alone marks mark list is =
     let agrees : AgreesWith marks mark = among (AgreesWith marks) marks mark is list.classes in
     let places = same_place marks mark list.rises is in
-    λ k d within group object. places k d within (place_of mark (get_or marks k d) group object (agrees k d within))
+    λ k d within group object. places k d within
+    (place_of mark (get_or marks k d) group object (agrees k d within))
 
 -- no mark stands before its place
 pub itself_before : (mark : Mark) → is_before mark.object (order_of mark) mark ≡ false
@@ -73,7 +75,8 @@ place_found (x ∷ xs) mark rises is =
     let p : Mark → Bool = is_before mark.object (order_of mark) in
     elim (p x) as (λ test. p x ≡ test
     → slice_get (x ∷ xs) (length (cond test (x ∷ filter p xs) (filter p xs))) ≡ Some mark) [
-      | true ↦ λ passes. let other : same_mark mark x ≡ false = not_same p mark x (itself_before mark) passes in
+      | true ↦ λ passes. let other : same_mark mark x ≡ false =
+          not_same p mark x (itself_before mark) passes in
           place_found xs mark rises.1 (rw other at is)
       | false ↦ λ fails.
           let all : All (λ y. p y ≡ false) xs =
@@ -106,7 +109,8 @@ place_removed (x ∷ xs) mark rises is =
     let q : Mark → Bool = λ other. not (same_mark mark other) in
     elim (p x) as (λ test. p x ≡ test
     → spliced (x ∷ xs) (length (cond test (x ∷ filter p xs) (filter p xs))) 1 [] ≡ filter q (x ∷ xs)) [
-      | true ↦ λ passes. let other : same_mark mark x ≡ false = not_same p mark x (itself_before mark) passes in
+      | true ↦ λ passes. let other : same_mark mark x ≡ false =
+          not_same p mark x (itself_before mark) passes in
           rw other (ap (λ more. x ∷ more) (place_removed xs mark rises.1 (rw other at is)))
       | false ↦ λ fails.
           let all : All (λ y. p y ≡ false) xs =
@@ -163,7 +167,7 @@ pub small_object : (mark : Mark) → IsMark mark → mark.object < 4294967296
 small_object mark is = omega (arith, is.object.1)
 
 -- a mark of a list is in its seat in the index
-pub seat_found : (marks seated : List Mark) (mark : Mark) → IsMarkList marks → IsIndex marks seated
+seat_found : (marks seated : List Mark) (mark : Mark) → IsMarkList marks → IsIndex marks seated
     → IsAmong marks mark
     → slice_get seated (length (filter (is_seated_before mark.group (seat_of mark)) seated)) ≡ Some mark
 seat_found marks seated mark list index is =
@@ -179,7 +183,15 @@ or_more true b is = refl
 or_more false b is = is
 
 -- what stands at an index is among the list
-pub among_at : (marks : List Mark) (at : ℕ) (mark : Mark) → slice_get marks at ≡ Some mark → IsAmong marks mark
+among_at : (marks : List Mark) (at : ℕ) (mark : Mark) → slice_get marks at ≡ Some mark → IsAmong marks mark
 among_at [] at mark is = absurd cc
 among_at (x ∷ xs) zero mark is = let one : x ≡ mark = cc in rw (one, same_mark_self mark) refl
-among_at (x ∷ xs) (suc at) mark is = or_more (same_mark mark x) (list_any (same_mark mark) xs) (among_at xs at mark is)
+among_at (x ∷ xs) (suc at) mark is =
+    or_more (same_mark mark x) (list_any (same_mark mark) xs) (among_at xs at mark is)
+
+-- what stands at an index of a list that is named twice is in its seat
+pub seat_of_place : (seen marks seated : List Mark) (at : ℕ) (mark : Mark) → seen ≡ marks → IsMarkList seen
+    → IsIndex marks seated → slice_get seen at ≡ Some mark
+    → slice_get seated (length (filter (is_seated_before mark.group (seat_of mark)) seated)) ≡ Some mark
+seat_of_place seen marks seated at mark same list index here =
+    seat_found marks seated mark (rw same at list) index (among_at marks at mark (rw same at here))

@@ -31,7 +31,8 @@ pub ordered_parted : (R : Mark → Mark → Type 0) (p : Mark → Bool)
     → (marks : List Mark) → Ordered R marks → IsPartitionedBy p marks
 ordered_parted R p back marks ordered i j d most within is =
     elim (cases_lt i j) [
-      | inl less ↦ back (get_or marks i d) (get_or marks j d) (ordered_at R marks i j d ordered less within) is
+      | inl less ↦ back (get_or marks i d) (get_or marks j d)
+          (ordered_at R marks i j d ordered less within) is
       | inr more ↦ let same : i ≡ j = omega arith in rw same is
     ]
 
@@ -98,7 +99,8 @@ pub seats_parted : (group seat : ℕ) (marks : List Mark) → Seats marks
     → IsPartitionedBy (is_seated_before group seat) marks
 seats_parted group seat = ordered_parted IsSeated (is_seated_before group seat) (seated_back group seat)
 
-before_group : (group : ℕ) (x y : Mark) → IsSeated x y → nat_lt y.group group ≡ true → nat_lt x.group group ≡ true
+before_group : (group : ℕ) (x y : Mark) → IsSeated x y → nat_lt y.group group ≡ true
+    → nat_lt x.group group ≡ true
 before_group group x y seated is = grind (arith, nat_tests)
 
 -- those of the groups before one come first
@@ -127,5 +129,6 @@ later_seat group seat x y seated is = grind (arith, nat_tests)
 pub Seats-inserted : (mark : Mark) (marks : List Mark) → Seats marks
     → Seats (spliced marks (length (filter (is_seated_before mark.group (seat_of mark)) marks)) 0 (mark ∷ []))
 Seats-inserted mark =
-    Ordered-inserted IsSeated (is_seated_before mark.group (seat_of mark)) mark (before_seat mark) (λ x is. is)
+    Ordered-inserted IsSeated (is_seated_before mark.group (seat_of mark)) mark (before_seat mark)
+    (λ x is. is)
     (later_seat mark.group (seat_of mark))

@@ -53,7 +53,8 @@ parts_at marks front here back at is same = (
 )
 
 -- what a Put goes by: the marks before its place, the one there, and those behind it
-pub parts_of : (marks : List Mark) (group : ℕ) (class : Class) (words : MarkWords) (object : ℕ) → IsMarkList marks
+pub parts_of : (marks : List Mark) (group : ℕ) (class : Class) (words : MarkWords) (object : ℕ)
+    → IsMarkList marks
     → IsChange marks (Put group class words object)
     → marks ≡ filter (is_before object (order_number class group)) marks ++ listed
     (mark_of marks group object)

@@ -1,8 +1,7 @@
 -- What changes that go mark by mark make of a list, and what they keep.
-use Rattle.std.proofs.Common.{◌≡◌, ◌∙◌, ℕ, ◌+◌, ◌<◌, ◌≤◌, List, [], ◌∷◌, ◌++◌, Bool, true, false, cond, drop, get_or, length, take, Option, Some, None, sym, refl, ap, arith, append-nil, append_assoc}
+use Rattle.std.proofs.Common.{◌≡◌, ◌∙◌, ℕ, List, [], ◌∷◌, ◌++◌, Bool, true, false, cond, drop, get_or, length, take, Option, Some, None, sym, refl, ap, arith, append-nil, append_assoc}
 use Rattle.std.specs.Prelude.{All, filter, not, slice_get, ◌&&◌}
 use Rattle.std.proofs.lemmas.List.{length-append, take-append-drop}
-use Rattle.std.proofs.lemmas.Option.{slice_get_within}
 use Rattle.fan_bits.specs.declared.change.Change.TheVariants.{Put}
 use Rattle.fan_bits.specs.declared.class.Class.{Class}
 use Rattle.fan_bits.specs.declared.mark.Mark.{Mark}
@@ -16,7 +15,6 @@ use Rattle.fan_marks.proofs.Indexed.{not_false_is}
 use Rattle.fan_marks.proofs.Parts.{filter_all}
 use Rattle.fan_marks.proofs.Places.{get_behind, parts_of}
 use Rattle.fan_marks.proofs.Same.{same_mark_one}
-use Rattle.fan_marks.proofs.Splicing.{length-spliced}
 
 -- nothing in place of nothing changes nothing
 pub spliced_none : (marks : List Mark) (at : ℕ) → marks ≡ spliced marks at 0 []
@@ -79,30 +77,13 @@ pub kept_others : (which : Mark → Bool) (mark : Mark) (marks : List Mark) → 
     ≡ filter (λ other. not (which other)) marks
 kept_others which mark marks is =
     filter_twice (λ other. not (same_mark mark other)) (λ other. not (which other)) marks
-    ∙ filter_agree_on (λ other. not (same_mark mark other) && not (which other)) (λ other. not (which other)) marks
+    ∙ filter_agree_on (λ other. not (same_mark mark other) && not (which other))
+    (λ other. not (which other)) marks
     (λ k d within. kept_differs which mark (get_or marks k d) is)
 
 -- where none of those that are meant is left, all are kept
 pub kept_all : (which : Mark → Bool) (marks : List Mark) → All (λ mark. which mark ≡ false) marks
     → filter (λ mark. not (which mark)) marks ≡ marks
 kept_all which marks none =
-    filter_all (λ mark. not (which mark)) marks (λ k d within. not_false_is (which (get_or marks k d)) (none k d within))
-
--- what takes a mark's place doesn't make the list longer
-pub no_longer : (marks new : List Mark) (at : ℕ) (old : Mark) (others : List Mark) → slice_get marks at ≡ Some old
-    → new ≡ spliced marks at 1 others → length others ≤ 1 → length new ≤ length marks
-no_longer marks new at old others here made few =
-    let within : at < length marks = slice_get_within marks at old here in
-    omega (arith, ap length made, length-spliced marks at 1 others (omega arith))
-
--- and where nothing takes it, one mark shorter
-pub one_less : (marks new : List Mark) (at : ℕ) (old : Mark) → slice_get marks at ≡ Some old
-    → new ≡ spliced marks at 1 [] → length new + 1 ≡ length marks
-one_less marks new at old here made =
-    let within : at < length marks = slice_get_within marks at old here in
-    omega (arith, ap length made, length-spliced marks at 1 [] (omega arith))
-
--- what stands is listed once at most
-pub listed_few : (new : Option Mark) → length (listed new) ≤ 1
-listed_few None = omega arith
-listed_few (Some mark) = omega arith
+    filter_all (λ mark. not (which mark)) marks
+    (λ k d within. not_false_is (which (get_or marks k d)) (none k d within))

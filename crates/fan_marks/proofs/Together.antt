@@ -45,8 +45,10 @@ first_of R within p Q later together before (x ∷ xs) ordered each =
     let first : Q x = All-head Q x xs each in
     let rest : All Q xs = All-tail Q x xs each in
     elim (within x) as (λ test. within x ≡ test
-    → IsOneOf p (x ∷ xs) (kept_if p (slice_get (x ∷ xs) (length (cond test (x ∷ filter within xs) (filter within xs)))))) [
-      | true ↦ λ is. more_one p x xs (kept_if p (slice_get xs (length (filter within xs)))) (before x first is)
+    → IsOneOf p (x ∷ xs)
+    (kept_if p (slice_get (x ∷ xs) (length (cond test (x ∷ filter within xs) (filter within xs)))))) [
+      | true ↦ λ is. more_one p x xs (kept_if p (slice_get xs (length (filter within xs))))
+          (before x first is)
           (first_of R within p Q later together before xs ordered.1 rest)
       | false ↦ λ fails.
           let all : All (λ y. within y ≡ false) xs =
@@ -82,7 +84,8 @@ both_are group number same is kind = grind (arith, nat_tests)
 
 -- seats between the first of a kind in a group and another of that kind are of that kind
 seat_range : (group object base x_group x_kind x_object : ℕ) → x_object < 4294967296 → object < 4294967296
-    → (nat_lt x_group group || (x_group == group && nat_lt (x_kind * 4294967296 + x_object) (base * 4294967296 + 0)))
+    → (nat_lt x_group group
+    || (x_group == group && nat_lt (x_kind * 4294967296 + x_object) (base * 4294967296 + 0)))
     ≡ false
     → (nat_lt group x_group
     || (group == x_group && nat_lt (base * 4294967296 + object) (x_kind * 4294967296 + x_object))) ≡ false
@@ -95,13 +98,16 @@ kind_together : (group : ℕ) (kind : Kind) (x y : Mark) → Small x → Small y
     → is_one (OfKind group kind) x ≡ true
 kind_together group kind x y small less next fails is =
     let its : y.group ≡ group = is_of_group y.group group (same_kind y.kind kind) is in
-    let its_kind : y.kind ≡ kind = kind_same y.kind kind (is_of_kind y.group group (same_kind y.kind kind) is) in
-    let tells = seat_range group y.object (kind_number kind) x.group (kind_number x.kind) x.object small less fails
+    let its_kind : y.kind ≡ kind =
+    kind_same y.kind kind (is_of_kind y.group group (same_kind y.kind kind) is) in
+    let tells = seat_range group y.object (kind_number kind) x.group (kind_number x.kind) x.object
+    small less fails
     (rw (its, its_kind) at next) in
     both_are x.group group (same_kind x.kind kind) tells.0 (kind_one x.kind kind tells.1)
 
 before_kind : (group number base object : ℕ)
-    → (nat_lt number group || (number == group && nat_lt (base * 4294967296 + object) (base * 4294967296 + 0))) ≡ true
+    → (nat_lt number group
+    || (number == group && nat_lt (base * 4294967296 + object) (base * 4294967296 + 0))) ≡ true
     → number ≡ group → ⊥
 before_kind group number base object is its = grind (arith, nat_tests)
 
@@ -111,12 +117,14 @@ kind_before group kind x small is =
     elim (is_one (OfKind group kind) x) as (λ test. is_one (OfKind group kind) x ≡ test → test ≡ false) [
       | true ↦ λ one.
           let its : x.group ≡ group = is_of_group x.group group (same_kind x.kind kind) one in
-          let its_kind : x.kind ≡ kind = kind_same x.kind kind (is_of_kind x.group group (same_kind x.kind kind) one) in
+          let its_kind : x.kind ≡ kind =
+          kind_same x.kind kind (is_of_kind x.group group (same_kind x.kind kind) one) in
           absurd (before_kind group x.group (kind_number kind) x.object (rw its_kind at is) its)
       | false ↦ λ other. refl
     ] refl
 
-later_group : (group : ℕ) (x y : Mark) → IsSeated x y → nat_lt x.group group ≡ false → nat_lt y.group group ≡ false
+later_group : (group : ℕ) (x y : Mark) → IsSeated x y → nat_lt x.group group ≡ false
+    → nat_lt y.group group ≡ false
 later_group group x y next fails = grind (arith, nat_tests)
 
 group_together : (group : ℕ) (x y : Mark) → Small x → Small y → IsSeated x y → nat_lt x.group group ≡ false
@@ -126,7 +134,8 @@ group_together group x y small less next fails is = grind (arith, nat_tests)
 group_before : (group : ℕ) (x : Mark) → Small x → nat_lt x.group group ≡ true → (x.group == group) ≡ false
 group_before group x small is = grind (arith, nat_tests)
 
-later_object : (object : ℕ) (x y : Mark) → IsBefore x y → is_before object 0 x ≡ false → is_before object 0 y ≡ false
+later_object : (object : ℕ) (x y : Mark) → IsBefore x y → is_before object 0 x ≡ false
+    → is_before object 0 y ≡ false
 later_object object x y next fails = grind (arith, nat_tests)
 
 object_together : (object : ℕ) (x y : Mark) → Small x → Small y → IsBefore x y → is_before object 0 x ≡ false
@@ -146,13 +155,15 @@ one_of_other p marks seated None index is =
 one_of_other p marks seated (Some mark) index is = (among_other seated marks index.same mark is.0, is.1)
 
 -- the first seat of a kind in a group
-pub first_of_kind : (marks seated : List Mark) (group : ℕ) (kind : Kind) → IsMarkList marks → IsIndex marks seated
+pub first_of_kind : (marks seated : List Mark) (group : ℕ) (kind : Kind) → IsMarkList marks
+    → IsIndex marks seated
     → IsOneOf (is_one (OfKind group kind)) marks (kept_if (is_one (OfKind group kind))
     (slice_get seated (length (filter (is_seated_before group (seat_number kind 0)) seated))))
 first_of_kind marks seated group kind list index =
     one_of_other (is_one (OfKind group kind)) marks seated _ index
     (first_of IsSeated (is_seated_before group (seat_number kind 0)) (is_one (OfKind group kind)) Small
-    (later_seat group (seat_number kind 0)) (kind_together group kind) (kind_before group kind) seated index.seats
+    (later_seat group (seat_number kind 0)) (kind_together group kind) (kind_before group kind) seated
+    index.seats
     (All-other Small seated marks index.same (all_small marks list)))
 
 -- the first seat in a group
@@ -171,5 +182,6 @@ pub first_on_object : (marks : List Mark) (object : ℕ) → IsMarkList marks
     (slice_get marks (length (filter (is_before object 0) marks))))
 first_on_object marks object list =
     first_of IsBefore (is_before object 0) (is_one (OnObject object)) Small
-    (later_object object) (object_together object) (object_before object) marks (rises_ordered marks list.rises)
+    (later_object object) (object_together object) (object_before object) marks
+    (rises_ordered marks list.rises)
     (all_small marks list)

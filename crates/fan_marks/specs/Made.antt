@@ -3,8 +3,7 @@ use Rattle.std.specs.Prelude.{◌≡◌, ◌≢◌, ◌↔◌, ℕ, ◌==◌, �
 use Rattle.fan_bits.specs.declared.change.Change.{Change}
 use Rattle.fan_bits.specs.declared.change.Changed.{Changed}
 use Rattle.fan_bits.specs.declared.mark.Mark.{Mark}
-use Rattle.fan_bits.specs.Marks.{changed, order_of}
-use Rattle.fan_bits.specs.Marks.{retired, same_mark}
+use Rattle.fan_bits.specs.Marks.{changed, order_of, retired, same_mark}
 
 -- a list became another by a change, and this is told of it
 pub record IsMade (old new : List Mark) (change : Change) (done : Changed) : Type 0 where

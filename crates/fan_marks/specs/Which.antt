@@ -2,8 +2,7 @@
 use Rattle.std.specs.Prelude.{◌≡◌, ℕ, ◌≤◌, ◌==◌, ◌&&◌, Bool, true, false, List, Option, Some, None, All, length, slice_get, if◌then◌else◌}
 use Rattle.std.specs.List.{list_any}
 use Rattle.fan_bits.specs.declared.mark.Mark.{Mark}
-use Rattle.fan_bits.specs.Marks.{same_kind}
-use Rattle.fan_bits.specs.Marks.{same_mark}
+use Rattle.fan_bits.specs.Marks.{same_kind, same_mark}
 use Rattle.fan_marks.specs.declared.which.Which.{Which}
 use Rattle.fan_marks.specs.declared.which.Which.TheVariants.{OfKind, OfGroup, OnObject}
 

@@ -1,10 +1,11 @@
-// How a tree is kept balanced: neither side of a mark has more than three times as many marks as the other.
+// How a tree is kept balanced: no side of a mark has more than three times the other's marks.
 ghost use Rattle.std.specs.Prelude.{◌≡◌, ◌<◌, ◌^◌, ◌∷◌, ◌++◌, length};
 
 use super::tree::{Parts, Room, Tree};
 use fan_bits::Mark;
 
-/// A mark with the marks before it and behind it, where one of the two sides may have one mark too many or too few.
+/// A mark with the marks before it and behind it, where one of the two sides may have one mark too
+/// many or too few.
 pub(crate) fn balanced(left: Tree, mark: Mark, right: Tree, room: Room) -> Tree
     requires { length (left ++ mark ∷ right) < 2 ^ 63 }
     ensures { result ≡ left ++ mark ∷ right }
@@ -18,7 +19,7 @@ pub(crate) fn balanced(left: Tree, mark: Mark, right: Tree, room: Room) -> Tree
     Tree::of(left, mark, right, room)
 }
 
-// Whether a tree, with one more for its empty end, has more than three times as many marks as another.
+// Whether a tree, with one more for its empty end, has more than three times another's marks.
 fn outweighs(heavy: &Tree, light: &Tree) -> bool {
     heavy.len() / 3 > light.len()
 }

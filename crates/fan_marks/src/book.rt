@@ -1,10 +1,9 @@
 // The book of marks.
 ghost use Rattle.std.specs.Prelude.{◌≡◌, Err, ◌≢◌, ◌≤◌, ◌↔◌, true, [], None, Some, List, IfOk, IfErr, IsTrue, OnOk, OnErr, length};
 ghost use Rattle.fan_bits.specs.declared.mark.Mark.{Mark};
-ghost use Rattle.fan_bits.specs.Marks.{IsChange, IsMarkList, changed, count_of, mark_of, next_on};
+ghost use Rattle.fan_bits.specs.Marks.{IsChange, IsMarkList, changed, count_of, mark_of, next_on, retired};
 ghost use Rattle.fan_bits.specs.Places.{IsObject};
 ghost use Rattle.fan_marks.specs.Book.{IsRefused, makes_mark, refusal_of};
-ghost use Rattle.fan_bits.specs.Marks.{retired};
 
 use super::edits::make;
 use super::marks::Marks;
@@ -112,8 +111,8 @@ impl MarkBook {
         self.marks.reserve()
     }
 
-    /// For tests: whether a change may be made: its numbers are in their ranges, it does what a Put may do, and the
-    /// class is the one of the group's marks.
+    /// For tests: whether a change may be made: its numbers are in their ranges, it does what a Put
+    /// may do, and the class is the one of the group's marks.
     #[cfg(test)]
     pub(crate) fn takes(&self, change: &Change) -> bool
         ensures { IsTrue result → IsChange self.now.marks change.now }

@@ -1,9 +1,8 @@
 // What each change makes of the marks, and what is told of it.
 ghost use Rattle.std.specs.Prelude.{◌≡◌, true, ◌+◌, ◌≤◌, ◌==◌, ◌&&◌, [], None, IfOk, OnOk, OnErr, count_by, filter, is_some, length, map, not};
 ghost use Rattle.fan_bits.specs.declared.change.Change.TheVariants.{Put, Flush, Clear, DropGroup, DropObject};
-ghost use Rattle.fan_bits.specs.Marks.{IsChange, IsMarkList, cleared, is_before, listed, order_of, standing, stands};
+ghost use Rattle.fan_bits.specs.Marks.{IsChange, IsMarkList, cleared, is_before, listed, order_of, same_mark, standing, stands};
 ghost use Rattle.fan_marks.specs.Book.{makes_mark};
-ghost use Rattle.fan_bits.specs.Marks.{same_mark};
 ghost use Rattle.fan_marks.specs.Made.{IsMade, forgets, is_other, is_retired, most_in_book, told_count, told_put};
 ghost use Rattle.fan_marks.specs.Spliced.{spliced};
 ghost use Rattle.fan_marks.specs.Which.{IsAmong, StandsAt, is_one};
@@ -218,7 +217,8 @@ fn clear(marks: &mut Marks, object: u32) -> Changed
     told_count(forget_all(marks, object))
 }
 
-// Empties those ignored sets, drops the marks that don't stand any more, and tells how many sets they were.
+// Empties those ignored sets, drops the marks that don't stand any more, and tells how many sets
+// they were.
 fn forget_all(marks: &mut Marks, object: u32) -> usize
     requires list { IsMarkList marks.old.marks }
     requires count { length marks.old.marks ≤ most_in_book }
@@ -249,9 +249,10 @@ fn forgets(mark: Mark, object: u32) -> bool
 fn forget(marks: &mut Marks, mark: Mark, object: u32)
     requires list { IsMarkList marks.old.marks }
     requires among { IsAmong marks.old.marks mark }
-    ensures { marks.new.marks ≡ spliced marks.old.marks
+    ensures made { marks.new.marks ≡ spliced marks.old.marks
         (length (filter (is_before mark.object (order_of mark)) marks.old.marks)) 1
         (listed (standing (cleared object mark))) }
+    ensures count { length marks.new.marks ≤ length marks.old.marks }
 {
     let at = marks.find_place(mark.object, mark.order());
     let new = cleared(mark, object);

@@ -1,5 +1,5 @@
 // A list of marks in a tree, with room for one more.
-ghost use Rattle.std.specs.Prelude.{◌≡◌, ◌<◌, ◌≤◌, [], ◌∷◌, OnErr, OnOk, filter, length, slice_get};
+ghost use Rattle.std.specs.Prelude.{◌≡◌, ◌+◌, ◌<◌, ◌≤◌, [], ◌∷◌, OnErr, OnOk, filter, length, slice_get};
 ghost use Rattle.std.specs.List.Sorted.{IsPartitionedBy};
 ghost use Rattle.fan_marks.specs.Cuts.{is_within};
 ghost use Rattle.fan_marks.specs.Made.{most_in_book};
@@ -98,16 +98,19 @@ impl Index {
     /// Puts another mark in place of the one with an index.
     pub(crate) fn set(&mut self, at: usize, mark: Mark)
         requires { at < length self.old.marks }
-        ensures { self.new.marks ≡ spliced self.old.marks at 1 (mark ∷ []) }
+        ensures marks { self.new.marks ≡ spliced self.old.marks at 1 (mark ∷ []) }
+        ensures long { length self.new.marks ≡ length self.old.marks }
     {
         let tree = mem::replace(&mut self.tree, Tree::new());
         self.tree = tree.set(at, mark);
     }
 
     /// Takes out the mark with an index. Then there is room for another.
+    #[tactic(auto, using(crate::proofs::Counting::room_at_most))]
     pub(crate) fn remove(&mut self, at: usize)
         requires { at < length self.old.marks }
         ensures marks { self.new.marks ≡ spliced self.old.marks at 1 [] }
+        ensures long { length self.new.marks + 1 ≡ length self.old.marks }
         ensures room { 1 ≤ self.new.spare }
     {
         let tree = mem::replace(&mut self.tree, Tree::new());

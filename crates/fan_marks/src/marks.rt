@@ -1,5 +1,5 @@
 // All marks, in two indexes: by object and order, and by group and seat.
-ghost use Rattle.std.specs.Prelude.{◌≡◌, ◌≤◌, [], ◌∷◌, Some, All, OnErr, OnOk, filter, length, slice_get};
+ghost use Rattle.std.specs.Prelude.{◌≡◌, ◌+◌, ◌≤◌, [], ◌∷◌, Some, All, OnErr, OnOk, filter, length, slice_get};
 ghost use Rattle.fan_bits.specs.Marks.{IsMarkList, count_of, is_before, mark_of, next_on};
 ghost use Rattle.fan_marks.specs.Made.{most_in_book};
 ghost use Rattle.fan_marks.specs.Spliced.{spliced};
@@ -135,7 +135,8 @@ impl Marks {
     pub(crate) fn set(&mut self, at: usize, old: Mark, mark: Mark)
         requires list { IsMarkList self.old.marks }
         requires here { slice_get self.old.marks at ≡ Some old }
-        ensures { self.new.marks ≡ spliced self.old.marks at 1 (mark ∷ []) }
+        ensures marks { self.new.marks ≡ spliced self.old.marks at 1 (mark ∷ []) }
+        ensures long { length self.new.marks ≡ length self.old.marks }
     {
         self.places.set(at, mark);
         drop_seat(&mut self.seats, old);
@@ -146,7 +147,8 @@ impl Marks {
     pub(crate) fn remove(&mut self, at: usize, old: Mark)
         requires list { IsMarkList self.old.marks }
         requires here { slice_get self.old.marks at ≡ Some old }
-        ensures { self.new.marks ≡ spliced self.old.marks at 1 [] }
+        ensures marks { self.new.marks ≡ spliced self.old.marks at 1 [] }
+        ensures long { length self.new.marks + 1 ≡ length self.old.marks }
     {
         self.places.remove(at);
         drop_seat(&mut self.seats, old);

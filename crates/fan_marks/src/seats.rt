@@ -47,7 +47,8 @@ pub(crate) fn drop_seat(seats: &mut Index, mark: Mark)
 // Where the seat of a mark is, or would be.
 fn find_seat(seats: &Index, mark: Mark) -> usize
     requires { Seats seats.now.marks }
-    ensures { result ≡ length (filter (is_seated_before mark.group (seat_of mark)) seats.now.marks) }
+    ensures { result
+        ≡ length (filter (is_seated_before mark.group (seat_of mark)) seats.now.marks) }
 {
     seats.count_within(Cut::BeforeSeat {
         group: mark.group,

@@ -50,7 +50,8 @@ fn is_in_range(group: u32, object: u32) -> bool
 // Whether all marks of a group have a class: one of them tells.
 fn has_class(marks: &Marks, group: u32, class: Class) -> bool
     requires { IsMarkList marks.now.marks }
-    ensures { IsTrue result → All (λ mark. mark.group ≡ group → mark.class ≡ class) marks.now.marks }
+    ensures { IsTrue result
+        → All (λ mark. mark.group ≡ group → mark.class ≡ class) marks.now.marks }
 {
     let first = marks.first(Which::OfGroup { group });
     is_of_class(first, class)

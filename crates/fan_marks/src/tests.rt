@@ -6,11 +6,11 @@ use fan_io::NoMemory;
 use std::alloc::Global;
 use std::test::Fail;
 
-// A line is a history, ' = ', its answers, ' | ' and the list at its end. A word a, r, i, s or j with
-// GROUP.RANK.OBJECT.BITS adds to a mask, removes from one, adds to an ignored set, adds to one that
-// survives, or removes from one; m adds on a mount. f.GROUP.KIND flushes, c.OBJECT clears, g.GROUP and
-// o.OBJECT drop. An answer is whether the list is another one, and how many marks are gone. A mark is shown
-// as OBJECT:GROUP.MASK.IGNORED, with s where the ignored set survives.
+// A line is a history, ' = ', its answers, ' | ' and the list at its end. A word a, r, i, s or j
+// with GROUP.RANK.OBJECT.BITS adds to a mask, removes from one, adds to an ignored set, adds to one
+// that survives, or removes from one; m adds on a mount. f.GROUP.KIND flushes, c.OBJECT clears,
+// g.GROUP and o.OBJECT drop. An answer is whether the list is another one, and how many marks are
+// gone. A mark is shown as OBJECT:GROUP.MASK.IGNORED, with s where the ignored set survives.
 const HISTORIES: &str = "\
 a.1.2.5.32 = 1.0 | 5:1.32.0
 a.1.2.5.32 a.1.2.5.1 = 1.0 1.1 | 5:1.33.0
@@ -246,8 +246,8 @@ fn room_is_made_ahead(rt: HostRuntime) -> Result<(), Fail> {
     Ok(())
 }
 
-// Neither side of a mark has more than three quarters of what is below it, counting one for an empty end: so of 4,096
-// marks 27 stand one below another at most, and of 2,048 marks 25.
+// Neither side of a mark has more than three quarters of what is below it, counting one for an empty
+// end: so of 4,096 marks 27 stand one below another at most, and of 2,048 marks 25.
 #[test]
 fn a_tree_stays_shallow(rt: HostRuntime) -> Result<(), Fail> {
     let mut index = Index::new(rt.alloc());

@@ -52,7 +52,8 @@ pub(crate) struct Room {
     node: Box<Node>,
 }
 
-/// A tree in parts: the marks before its topmost one, that one, the marks behind it, and the node that held it.
+/// A tree in parts: the marks before its topmost one, that one, the marks behind it, and the node
+/// that held it.
 #[derive(Drop)]
 pub(crate) struct Parts {
     pub(crate) left: Tree,
@@ -155,6 +156,7 @@ impl Tree {
     }
 
     /// How many marks a cut has before it.
+    #[tactic(auto, using(crate::proofs::Cutting::filter_shorter))]
     pub(crate) fn count_within(&self, cut: Cut) -> usize
         requires { IsPartitionedBy (is_within cut) self.now }
         ensures { result ≡ length (filter (is_within cut) self.now) }

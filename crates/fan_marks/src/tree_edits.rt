@@ -9,75 +9,69 @@ use fan_bits::Mark;
 
 impl Tree {
     /// The marks with one more, before the one with an index.
+    #[tactic(auto, using(crate::proofs::Splicing::edits_of_parts))]
     pub(crate) fn insert(self, at: usize, new: Mark, space: Room) -> Tree
         requires within { at ≤ length self }
         requires small { length self + 1 < 2 ^ 63 }
-        ensures { result ≡ spliced self at 0 (new ∷ []) }
+        ensures marks { result ≡ spliced self at 0 (new ∷ []) }
+        ensures long { length result ≡ length self + 1 }
     {
         let Some(parts) = self.open() else {
             return Tree::of(Tree::new(), new, Tree::new(), space);
         };
-        let Parts {
-            left,
-            mark,
-            right,
-            room,
-        } = parts;
-        let here = left.len();
+        let here = parts.left.len();
         if at <= here {
-            return balanced(left.insert(at, new, space), mark, right, room);
+            let before = parts.left.insert(at, new, space);
+            return balanced(before, parts.mark, parts.right, parts.room);
         }
-        balanced(left, mark, right.insert(at - here - 1, new, space), room)
+        let after = parts.right.insert(at - here - 1, new, space);
+        balanced(parts.left, parts.mark, after, parts.room)
     }
 
     /// The marks with another one in place of that with an index.
+    #[tactic(auto, using(crate::proofs::Splicing::edits_of_parts))]
     pub(crate) fn set(self, at: usize, new: Mark) -> Tree
         requires { at < length self }
-        ensures { result ≡ spliced self at 1 (new ∷ []) }
+        ensures marks { result ≡ spliced self at 1 (new ∷ []) }
+        ensures long { length result ≡ length self }
     {
         let Some(parts) = self.open() else {
             return Tree::new();
         };
-        let Parts {
-            left,
-            mark,
-            right,
-            room,
-        } = parts;
-        let here = left.len();
+        let here = parts.left.len();
         if at < here {
-            return Tree::of(left.set(at, new), mark, right, room);
+            let before = parts.left.set(at, new);
+            return Tree::of(before, parts.mark, parts.right, parts.room);
         }
         if at > here {
-            return Tree::of(left, mark, right.set(at - here - 1, new), room);
+            let after = parts.right.set(at - here - 1, new);
+            return Tree::of(parts.left, parts.mark, after, parts.room);
         }
-        Tree::of(left, new, right, room)
+        Tree::of(parts.left, new, parts.right, parts.room)
     }
 
     /// The marks without the one with an index, whose room is kept.
+    #[tactic(auto, using(crate::proofs::Splicing::edits_of_parts))]
     pub(crate) fn remove(self, at: usize, kept: &mut Option<Room>) -> Tree
         requires { at < length self }
         ensures marks { result ≡ spliced self at 1 [] }
+        ensures long { length result + 1 ≡ length self }
         ensures kept { is_some kept.new ≡ true }
     {
         let Some(parts) = self.open() else {
             return Tree::new();
         };
-        let Parts {
-            left,
-            mark,
-            right,
-            room,
-        } = parts;
-        let here = left.len();
+        let here = parts.left.len();
         if at < here {
-            return balanced(left.remove(at, kept), mark, right, room);
+            let before = parts.left.remove(at, kept);
+            return balanced(before, parts.mark, parts.right, parts.room);
         }
         if at > here {
-            return balanced(left, mark, right.remove(at - here - 1, kept), room);
+            let after = parts.right.remove(at - here - 1, kept);
+            return balanced(parts.left, parts.mark, after, parts.room);
         }
-        *kept = Some(room);
-        joined(left, right)
+        *kept = Some(parts.room);
+        joined(parts.left, parts.right)
     }
 
     // Takes the first mark from the others, if there is one.

@@ -1,10 +1,8 @@
 use Rattle.std.proofs.Common.{◌≡◌, ◌∙◌, ◌≤◌, length, Some, true, false, sym, arith}
-use Rattle.fan_bits.specs.Marks.{cleared, listed, next_on, standing}
+use Rattle.fan_bits.specs.Marks.{next_on}
 use Rattle.fan_marks.specs.Made.{forgets}
 use Rattle.fan_marks.proofs.Clearing.{IsMarkList-forgot, IsNext, all_done, done_cleared, done_kept, forgot_count, forgot_made, next_is}
 use Rattle.fan_marks.proofs.Found.{not_some}
-use Rattle.fan_marks.proofs.Indexed.{place_found}
-use Rattle.fan_marks.proofs.Steps.{listed_few, no_longer}
 use Rattle.fan_marks.proofs.edits.forget_all.Goals as goal
 
 pub forget-requires-clause-among : goal.forget-requires-clause-among
@@ -19,7 +17,8 @@ loop-mark-smaller-then-forgets c =
     let cur = c.loop-mark.marks.marks in
     let found : next_on cur c.args.object c.loop-mark.after.0 ≡ Some c.in-Some.mark =
     sym c.next.ensures ∙ c.in-Some.is in
-    let next = next_is cur c.args.object c.loop-mark.after.0 c.in-Some.mark c.loop-mark.invariant.0.rises found in
+    let next = next_is cur c.args.object c.loop-mark.after.0 c.in-Some.mark c.loop-mark.invariant.0.rises
+    found in
     omega (arith, next.behind, c.order-after.ensures)
 
 pub loop-mark-smaller : goal.loop-mark-smaller
@@ -27,7 +26,8 @@ loop-mark-smaller c =
     let cur = c.loop-mark.marks.marks in
     let found : next_on cur c.args.object c.loop-mark.after.0 ≡ Some c.in-Some.mark =
     sym c.next.ensures ∙ c.in-Some.is in
-    let next = next_is cur c.args.object c.loop-mark.after.0 c.in-Some.mark c.loop-mark.invariant.0.rises found in
+    let next = next_is cur c.args.object c.loop-mark.after.0 c.in-Some.mark c.loop-mark.invariant.0.rises
+    found in
     omega (arith, next.behind, c.order-after.ensures)
 
 pub loop-mark-preserved-then-forgets : goal.loop-mark-preserved-then-forgets
@@ -35,15 +35,14 @@ loop-mark-preserved-then-forgets c =
     let cur = c.loop-mark.marks.marks in
     let mark = c.in-Some.mark in
     let list = c.loop-mark.invariant.0 in
-    let found : next_on cur c.args.object c.loop-mark.after.0 ≡ Some mark = sym c.next.ensures ∙ c.in-Some.is in
+    let found : next_on cur c.args.object c.loop-mark.after.0 ≡ Some mark =
+    sym c.next.ensures ∙ c.in-Some.is in
     let next : IsNext cur c.args.object c.loop-mark.after.0 mark =
     next_is cur c.args.object c.loop-mark.after.0 mark list.rises found in
     let its : forgets c.args.object mark ≡ true = sym c.forgets.ensures ∙ c.if-forgets.true in
-    let made = c.forget.ensures in
-    let fewer = no_longer cur c.forget.new.marks.marks _ mark (listed (standing (cleared c.args.object mark)))
-    (place_found cur mark list.rises next.among) made (listed_few (standing (cleared c.args.object mark))) in
+    let made = c.forget.ensures.made in
     let short : length c.forget.new.marks.marks ≤ length c.args.marks.now.marks =
-    omega (arith, fewer, c.loop-mark.invariant.4) in
+    omega (arith, c.forget.ensures.count, c.loop-mark.invariant.4) in
     rw (made, c.order-after.ensures) (
       IsMarkList-forgot cur c.args.object mark list next.among,
       done_cleared cur c.args.object c.loop-mark.after.0 mark list.rises next c.loop-mark.invariant.1,
@@ -56,7 +55,8 @@ pub loop-mark-preserved : goal.loop-mark-preserved
 loop-mark-preserved c =
     let cur = c.loop-mark.marks.marks in
     let mark = c.in-Some.mark in
-    let found : next_on cur c.args.object c.loop-mark.after.0 ≡ Some mark = sym c.next.ensures ∙ c.in-Some.is in
+    let found : next_on cur c.args.object c.loop-mark.after.0 ≡ Some mark =
+    sym c.next.ensures ∙ c.in-Some.is in
     let next : IsNext cur c.args.object c.loop-mark.after.0 mark =
     next_is cur c.args.object c.loop-mark.after.0 mark c.loop-mark.invariant.0.rises found in
     let its : forgets c.args.object mark ≡ false = sym c.forgets.ensures ∙ c.if-forgets.false in

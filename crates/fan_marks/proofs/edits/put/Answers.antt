@@ -7,7 +7,8 @@ use Rattle.fan_marks.proofs.edits.put.Goals as goal
 
 pub place-requires-clause-here : goal.place-requires-clause-here
 place-requires-clause-here c =
-    stands_at c.args.marks.now.marks c.args.group c.args.class c.args.words c.args.object c.find_place-at.result
+    stands_at c.args.marks.now.marks c.args.group c.args.class c.args.words c.args.object
+    c.find_place-at.result
     c.find_of-was.result c.requires.list c.requires.change
     (rw c.of.ensures at c.find_place-at.ensures) c.find_of-was.ensures
 

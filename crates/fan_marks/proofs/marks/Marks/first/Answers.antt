@@ -26,7 +26,8 @@ returns-in-OfKind c =
     sym (ap (λ book. book.marks) c.self.view_is) in
     let list : IsMarkList c.self.inside.places.marks = rw same at c.requires in
     rw (c.in-OfKind.is, same, c.first_behind.ensures, c.seat_of-seat.ensures)
-    (first_of_kind c.self.inside.places.marks c.self.inside.seats.marks c.in-OfKind.group c.in-OfKind.kind list
+    (first_of_kind c.self.inside.places.marks c.self.inside.seats.marks c.in-OfKind.group c.in-OfKind.kind
+    list
     c.self.invariant)
 
 pub returns-in-OfGroup : goal.returns-in-OfGroup
@@ -35,7 +36,8 @@ returns-in-OfGroup c =
     sym (ap (λ book. book.marks) c.self.view_is) in
     let list : IsMarkList c.self.inside.places.marks = rw same at c.requires in
     rw (c.in-OfGroup.is, same, c.first_behind-in-OfGroup.ensures)
-    (first_of_group c.self.inside.places.marks c.self.inside.seats.marks c.in-OfGroup.group list c.self.invariant)
+    (first_of_group c.self.inside.places.marks c.self.inside.seats.marks c.in-OfGroup.group list
+    c.self.invariant)
 
 pub returns-in-OnObject : goal.returns-in-OnObject
 returns-in-OnObject c =
