@@ -1,9 +1,10 @@
 // The open accesses: how one begins, and its single steps.
-ghost use Rattle.std.specs.Prelude.{◌≡◌, ℕ, [], ◌∷◌, ◌++◌, ◌<◌, ◌^◌, length, position, Some, None, IfOk, IfSome, OnErr, if◌then◌else◌};
-ghost use Rattle.fan_world.specs.Accesses.{AccessState, beginning, has_number, kept_access};
+ghost use Rattle.std.specs.Prelude.{◌≡◌, ℕ, [], ◌∷◌, ◌++◌, ◌<◌, ◌^◌, length, IfOk, OnErr};
+ghost use Rattle.fan_world.specs.Accesses.{beginning};
 ghost use Rattle.fan_world.specs.Asks.{marks_seen};
 ghost use Rattle.fan_world.specs.Batches.{noted};
 ghost use Rattle.fan_world.specs.Bounds.{AreBounded};
+ghost use Rattle.fan_world.specs.Opened.{step_reply};
 ghost use Rattle.fan_world.specs.Retiring.{begun_so};
 ghost use Rattle.fan_world.specs.Sound.{FindFew};
 ghost use Rattle.fan_bits.specs.Marks.{IsMarkList};
@@ -14,7 +15,7 @@ use super::access::{Access, Deed, Opening};
 use super::batches::Replied;
 use super::interests::room_for_groups;
 use super::marking::retire;
-use super::stepping::step;
+use super::open_accesses::OpenAccesses;
 use fan_bits::{Change, Errno, Place};
 use fan_io::{Items, NoMemory};
 use fan_listener::Listener;
@@ -52,8 +53,7 @@ pub(crate) fn begin(
     tree: &Tree,
     mounts: &Mounts,
     marks: &mut MarkBook,
-    accesses: &mut Vec<Access>,
-    last_access: &mut u32,
+    accesses: &mut OpenAccesses,
     opening: Opening,
     op: OpWord,
     path: &[u8],
@@ -62,28 +62,17 @@ pub(crate) fn begin(
     requires few { FindFew marks.old.marks }
     ensures ok { IfOk result (λ done. (
       done.reply,
-      begun_so marks.new.marks accesses.new.items last_access.new done.retired,
+      begun_so marks.new.marks accesses.new.accesses accesses.new.last done.retired,
     )
-        ≡ begun_by op tree.now mounts.now marks.old.marks accesses.old.items last_access.old
+        ≡ begun_by op tree.now mounts.now marks.old.marks accesses.old.accesses accesses.old.last
         opening path.now) }
     ensures whole { IsMarkList marks.new.marks }
     ensures marks { OnErr result (marks.new.marks ≡ marks.old.marks) }
-    ensures accesses { OnErr result (accesses.new.items ≡ accesses.old.items) }
-    ensures last_access { OnErr result (last_access.new ≡ last_access.old) }
+    ensures accesses { OnErr result (accesses.new ≡ accesses.old) }
 {
     match deed_of(op) {
         None => Ok(Replied::refused(Errno::Einval)),
-        Some(deed) => begin_deed(
-            alloc,
-            tree,
-            mounts,
-            marks,
-            accesses,
-            last_access,
-            opening,
-            deed,
-            path,
-        ),
+        Some(deed) => begin_deed(alloc, tree, mounts, marks, accesses, opening, deed, path),
     }
 }
 
@@ -94,8 +83,7 @@ fn begin_deed(
     tree: &Tree,
     mounts: &Mounts,
     marks: &mut MarkBook,
-    accesses: &mut Vec<Access>,
-    last_access: &mut u32,
+    accesses: &mut OpenAccesses,
     opening: Opening,
     deed: Deed,
     path: &[u8],
@@ -104,16 +92,15 @@ fn begin_deed(
     requires few { FindFew marks.old.marks }
     ensures ok { IfOk result (λ done. (
       done.reply,
-      begun_so marks.new.marks accesses.new.items last_access.new done.retired,
+      begun_so marks.new.marks accesses.new.accesses accesses.new.last done.retired,
     )
-        ≡ begun tree.now mounts.now marks.old.marks accesses.old.items last_access.old
+        ≡ begun tree.now mounts.now marks.old.marks accesses.old.accesses accesses.old.last
         opening deed path.now) }
     ensures whole { IsMarkList marks.new.marks }
     ensures marks { OnErr result (marks.new.marks ≡ marks.old.marks) }
-    ensures accesses { OnErr result (accesses.new.items ≡ accesses.old.items) }
-    ensures last_access { OnErr result (last_access.new ≡ last_access.old) }
+    ensures accesses { OnErr result (accesses.new ≡ accesses.old) }
 {
-    if opening.number <= *last_access {
+    if opening.number <= accesses.last() {
         return Ok(Replied::refused(Errno::Eexist));
     }
     let place = match mounts.place(tree, path) {
@@ -124,38 +111,40 @@ fn begin_deed(
         return Ok(Replied::refused(Errno::Eisdir));
     }
     let retired = begin_at(alloc, marks, accesses, opening, deed, place)?;
-    *last_access = opening.number;
     Ok(Replied::done(retired))
 }
 
 // Begins an access of a place, and gives how many marks that retires. All memory is taken first, since
-// an ignored set that was emptied can't be filled again.
+// an ignored set that was emptied can't be filled again: so a blank access holds the place of the one
+// that goes by the marks after that.
 fn begin_at(
     alloc: Global,
     marks: &mut MarkBook,
-    accesses: &mut Vec<Access>,
+    accesses: &mut OpenAccesses,
     opening: Opening,
     deed: Deed,
     place: Place,
 ) -> Result<u32, NoMemory>
+    requires number { accesses.old.last < opening.number }
     requires whole { IsMarkList marks.old.marks }
     requires few { FindFew marks.old.marks }
     requires place { IsPlace place }
     ensures marks { IfOk result (λ _. marks.new.marks ≡ marks_seen deed marks.old.marks place) }
-    ensures accesses { IfOk result (λ _. accesses.new.items ≡ accesses.old.items
+    ensures accesses { IfOk result (λ _. accesses.new.accesses ≡ accesses.old.accesses
         ++ beginning opening deed place (marks_seen deed marks.old.marks place) ∷ []) }
+    ensures last { IfOk result (λ _. accesses.new.last ≡ opening.number) }
     ensures retired { IfOk result (λ retired. noted retired opening.number
         ≡ retired_at_begin deed marks.old.marks place opening.number) }
     ensures whole { IsMarkList marks.new.marks }
     ensures marks_stay { OnErr result (marks.new.marks ≡ marks.old.marks) }
-    ensures accesses_stay { OnErr result (accesses.new.items ≡ accesses.old.items) }
+    ensures accesses_stay { OnErr result (accesses.new ≡ accesses.old) }
 {
-    accesses.reserve(1)?;
     let room_to_ask = room_for_groups(alloc)?;
     let room_to_tell = room_for_groups(alloc)?;
+    accesses.add(Access::blank(alloc, opening, deed, place))?;
     let retired = empty_ignored(marks, deed, &place);
     let access = Access::begin(room_to_ask, room_to_tell, opening, deed, place, marks);
-    accesses.push_reserved(access);
+    accesses.replace(access);
     Ok(retired)
 }
 
@@ -180,56 +169,35 @@ fn empty_ignored(marks: &mut MarkBook, deed: Deed, place: &Place) -> u32
     }
 }
 
-// The place of an open access.
-fn place_of_access(accesses: &[Access], number: u32) -> Option<usize>
-    ensures found { result ≡ position (has_number number) accesses.now }
-    ensures within { IfSome result (λ place. place < length accesses.now) }
-{
-    accesses.iter().position(|access| access.number() == number)
-}
-
-/// Does the next single step of an access.
-#[tactic(auto, unfolding(crate::specs::World::advanced))]
+/// Does the next single step of an access: ESRCH where no such access is open.
 pub(crate) fn advance(
     alloc: Global,
     listeners: &mut Vec<Listener>,
-    accesses: &mut Vec<Access>,
+    accesses: &mut OpenAccesses,
     number: u32,
 ) -> Result<Reply, NoMemory>
     requires { AreBounded (2 ^ 30) listeners.old.items }
-    ensures ok { IfOk result (λ reply. (reply, listeners.new.items, accesses.new.items)
-        ≡ advanced listeners.old.items accesses.old.items number) }
+    ensures ok { IfOk result (λ reply. (reply, listeners.new.items, accesses.new.accesses)
+        ≡ advanced listeners.old.items accesses.old.accesses number) }
+    ensures last { accesses.new.last ≡ accesses.old.last }
     ensures listeners { OnErr result (listeners.new.items ≡ listeners.old.items) }
-    ensures accesses { OnErr result (accesses.new.items ≡ accesses.old.items) }
+    ensures accesses { OnErr result (accesses.new ≡ accesses.old) }
 {
-    let Some(place) = place_of_access(accesses, number) else {
-        return Ok(Reply::Refused(Errno::Esrch));
-    };
     let outcomes = vec![in alloc; StepOutcome::Done]?;
-    let access = &mut accesses[place];
-    let outcome = step(listeners, access)?;
-    if is_finished(outcome) {
-        let _ = accesses.remove(place);
-    }
+    let outcome = accesses.step(listeners, number)?;
     Ok(reply_of(outcomes, outcome))
 }
 
-// The reply of one outcome, in a vector of one that is there already.
-fn reply_of(mut outcomes: Vec<StepOutcome>, outcome: StepOutcome) -> Reply
+// The reply to a single step, in a vector of one that is there already.
+fn reply_of(mut outcomes: Vec<StepOutcome>, outcome: Option<StepOutcome>) -> Reply
     requires { length outcomes.items ≡ 1 }
-    ensures { result ≡ Reply.Out (outcome ∷ []) }
-{
-    outcomes[0] = outcome;
-    Reply::Out(Items::from_vec(outcomes))
-}
-
-// Whether an access is finished after this outcome.
-fn is_finished(outcome: StepOutcome) -> bool
-    ensures { (access : AccessState) → kept_access outcome access
-        ≡ (if result then None else Some access) }
+    ensures { result ≡ step_reply outcome }
 {
     match outcome {
-        StepOutcome::Denied(_) | StepOutcome::Done => true,
-        _ => false,
+        None => Reply::Refused(Errno::Esrch),
+        Some(outcome) => {
+            outcomes[0] = outcome;
+            Reply::Out(Items::from_vec(outcomes))
+        }
     }
 }

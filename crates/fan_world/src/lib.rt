@@ -5,10 +5,12 @@
 mod access;
 mod accesses;
 mod batches;
+mod counts;
 mod groups;
 mod interests;
 mod laws;
 mod marking;
+mod open_accesses;
 mod reclaim_law;
 mod run_law;
 mod stepping;

@@ -21,6 +21,8 @@ pub(crate) fn step(
         ≡ access_step listeners.old.items access.old) }
     ensures listeners { OnErr result (listeners.new.items ≡ listeners.old.items) }
     ensures access { OnErr result (access.new ≡ access.old) }
+    ensures number { access.new.number ≡ access.old.number }
+    ensures place { access.new.place ≡ access.old.place }
 {
     if let Some(asked) = access.waiting() {
         return Ok(look(listeners, access, asked));
@@ -38,8 +40,10 @@ pub(crate) fn step(
 #[tactic(auto, unfolding(crate::specs::Accesses::looked))]
 fn look(listeners: &mut Vec<Listener>, access: &mut Access, asked: WaitingFor) -> StepOutcome
     requires { access.old.settled < length (asks access.old) }
-    ensures { (result, listeners.new.items, kept_access result access.new)
+    ensures ok { (result, listeners.new.items, kept_access result access.new)
         ≡ looked asked listeners.old.items access.old }
+    ensures number { access.new.number ≡ access.old.number }
+    ensures place { access.new.place ≡ access.old.place }
 {
     let group = asked.group;
     match answer(listeners, asked) {
@@ -85,6 +89,8 @@ fn ask(
         ≡ asked_next group listeners.old.items access.old) }
     ensures listeners { OnErr result (listeners.new.items ≡ listeners.old.items) }
     ensures access { OnErr result (access.new ≡ access.old) }
+    ensures number { access.new.number ≡ access.old.number }
+    ensures place { access.new.place ≡ access.old.place }
 {
     match put_question(listeners, access, group)? {
         Put::Queued { entry } => {
@@ -132,6 +138,8 @@ fn tell(
         ≡ told_next group listeners.old.items access.old) }
     ensures listeners { OnErr result (listeners.new.items ≡ listeners.old.items) }
     ensures access { OnErr result (access.new ≡ access.old) }
+    ensures number { access.new.number ≡ access.old.number }
+    ensures place { access.new.place ≡ access.old.place }
 {
     let put = put_notice(listeners, access, group)?;
     access.tell_one();

@@ -1,15 +1,14 @@
 // Steps that change the file tree and its mounts. A refused step changes nothing.
 ghost use Rattle.std.specs.Prelude.{◌≡◌, ℕ, IfOk, OnErr, true, is_some};
-ghost use Rattle.std.specs.List.{list_any};
 ghost use Rattle.fan_bits.specs.Marks.{IsMarkList};
 ghost use Rattle.fan_mounts.specs.Mounts.{mount_of, unmounted};
 ghost use Rattle.fan_tree.specs.Tree.{made};
 ghost use Rattle.fan_world.specs.Batches.{noted};
-ghost use Rattle.fan_world.specs.Tree.{fs_made, made_at, goes_through, made_reply, mounted_at, umount_reply, unmounted_at};
+ghost use Rattle.fan_world.specs.Tree.{fs_made, made_at, made_reply, mounted_at, umount_reply, unmounted_at};
 
-use super::access::Access;
 use super::batches::Replied;
 use super::marking::retire;
+use super::open_accesses::OpenAccesses;
 use fan_bits::{Change, Errno};
 use fan_io::NoMemory;
 use fan_marks::MarkBook;
@@ -91,13 +90,6 @@ pub(crate) fn mount(
     }
 }
 
-// Whether some access was begun through a mount.
-fn is_in_use(accesses: &[Access], mount: u32) -> bool
-    ensures { result ≡ list_any (goes_through mount) accesses.now }
-{
-    accesses.iter().any(|access| access.goes_through(mount))
-}
-
 // Removes a mount and drops its marks.
 #[tactic(auto, unfolding(crate::specs::Batches::retired_by))]
 fn remove_mount(mounts: &mut Mounts, marks: &mut MarkBook, mount: u32) -> Replied
@@ -120,14 +112,14 @@ pub(crate) fn umount(
     tree: &Tree,
     mounts: &mut Mounts,
     marks: &mut MarkBook,
-    accesses: &[Access],
+    accesses: &OpenAccesses,
     path: &[u8],
 ) -> Replied
     requires { IsMarkList marks.old.marks }
     ensures whole { IsMarkList marks.new.marks }
     ensures done { (last : ℕ) →
         (result.reply, mounts.new, marks.new.marks, noted result.retired last)
-        ≡ unmounted_at tree.now mounts.old marks.old.marks accesses.now last path.now }
+        ≡ unmounted_at tree.now mounts.old marks.old.marks accesses.now.accesses last path.now }
 {
     let place = match mounts.place(tree, path) {
         Err(refusal) => return Replied::refused(refusal),
@@ -136,7 +128,7 @@ pub(crate) fn umount(
     if place.parent.is_some() {
         return Replied::refused(Errno::Einval);
     }
-    if is_in_use(accesses, place.mount) {
+    if accesses.has_through(place.mount) {
         return Replied::refused(Errno::Ebusy);
     }
     remove_mount(mounts, marks, place.mount)

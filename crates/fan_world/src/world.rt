@@ -2,11 +2,12 @@
 ghost use Rattle.std.specs.Prelude.{◌≡◌, ◌+◌, ◌<◌, ◌≤◌, ◌^◌, length, IfOk, OnOk, OnErr, IfSome};
 ghost use Rattle.fan_world.specs.World.{next, opening_world};
 
-use super::access::{Access, Opening};
+use super::access::Opening;
 use super::accesses::{advance, begin};
 use super::batches::Retirement;
 use super::groups::{close_group, make_group, read_group, write_group};
 use super::marking::mark;
+use super::open_accesses::OpenAccesses;
 use super::tree_steps::{make_entry, make_fs, mount, umount};
 use fan_bits::Errno;
 use fan_io::NoMemory;
@@ -27,8 +28,7 @@ pub struct World {
     listeners: Vec<Listener>,
     marks: MarkBook,
     retirement: Retirement,
-    accesses: Vec<Access>,
-    last_access: u32,
+    accesses: OpenAccesses,
     steps: u32,
 }
 
@@ -45,8 +45,8 @@ impl Model for World {
         listeners = w.listeners.items;
         marks = w.marks.marks;
         retirement = w.retirement.state;
-        accesses = w.accesses.items;
-        last_access = w.last_access;
+        accesses = w.accesses.accesses;
+        last_access = w.accesses.last;
       };
       steps = w.steps;
     } };
@@ -57,8 +57,8 @@ impl Model for World {
       listeners = w.listeners.items;
       marks = w.marks.marks;
       retirement = w.retirement.state;
-      accesses = w.accesses.items;
-      last_access = w.last_access;
+      accesses = w.accesses.accesses;
+      last_access = w.accesses.last;
     }) };
 }
 
@@ -74,8 +74,7 @@ impl World {
             listeners: Vec::new(alloc),
             marks: MarkBook::new(alloc)?,
             retirement: Retirement::new(alloc),
-            accesses: Vec::new(alloc),
-            last_access: 0,
+            accesses: OpenAccesses::new(alloc),
             steps: 0,
         })
     }
@@ -115,7 +114,7 @@ impl World {
                     &self.accesses,
                     path.as_slice(),
                 );
-                self.retirement.note(done, self.last_access)
+                self.retirement.note(done, self.accesses.last())
             }
             Step::Limit { .. } => Reply::Refused(Errno::Einval),
             Step::Init { flags } => make_group(self.alloc, &mut self.listeners, *flags)?,
@@ -136,7 +135,7 @@ impl World {
                     *mask,
                     path.as_slice(),
                 )?;
-                self.retirement.note(done, self.last_access)
+                self.retirement.note(done, self.accesses.last())
             }
             Step::Begin {
                 access,
@@ -153,12 +152,11 @@ impl World {
                     &self.mounts,
                     &mut self.marks,
                     &mut self.accesses,
-                    &mut self.last_access,
                     Opening::new(*access, *pid, *tid),
                     *op,
                     path.as_slice(),
                 )?;
-                self.retirement.note(done, self.last_access)
+                self.retirement.note(done, self.accesses.last())
             }
             Step::Advance { access } => advance(
                 self.alloc,
@@ -173,10 +171,10 @@ impl World {
             Step::Close { group } => {
                 self.retirement.reserve()?;
                 let done = close_group(&mut self.listeners, &mut self.marks, *group);
-                self.retirement.note(done, self.last_access)
+                self.retirement.note(done, self.accesses.last())
             }
             Step::Grace => {
-                Reply::Reclaimed(self.retirement.grace(&self.accesses, self.last_access))
+                Reply::Reclaimed(self.retirement.grace(&self.accesses))
             }
         };
         self.steps += 1;

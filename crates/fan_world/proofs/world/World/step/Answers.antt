@@ -12,19 +12,19 @@ begin-requires-clause-few c =
 pub invariant_of-self-2 : goal.invariant_of-self-2
 invariant_of-self-2 c =
     let count = c.self.inside.steps in
-    let last = c.self.inside.last_access in
+    let last = c.self.inside.accesses.last in
     let kept = c.self.invariant in
     elim c.match-step.branch [
       | in-MkFile+in_ok-reply-in-MkFile w ↦ rw w.self-inside-is (kept_tree count _ kept _ _ _)
       | in-MkDir+in_ok-reply-in-MkDir w ↦ rw w.self-inside-is (kept_tree count _ kept _ _ _)
       | in-MkFs+in_ok-reply-in-MkFs w ↦ rw w.self-inside-is (kept_tree count _ kept _ _ _)
       | in-Mount+in_ok-reply-in-Mount w ↦ rw w.self-inside-is (kept_tree count _ kept _ _ _)
-      | in-Umount+in_ok-reserve-in-Umount w ↦ rw w.self-inside-is (kept_umount count _ kept _ _ _ _ _ _ (rw w.deref.ensures.value at w.umount-done.ensures.done last) w.umount-done.ensures.whole)
+      | in-Umount+in_ok-reserve-in-Umount w ↦ rw w.self-inside-is (kept_umount count _ kept _ _ _ _ _ _ (w.umount-done.ensures.done last) w.umount-done.ensures.whole)
       | in-Limit w ↦ rw w.self-inside-is (kept_tree count _ kept _ _ _)
       | in-Init+in_ok-reply-in-Init w ↦ rw w.self-inside-is (kept_init count _ kept _ _ _ w.in_ok-reply-in-Init.ensures.ok)
-      | in-Mark+in_ok-reserve-in-Mark+in_ok-done-in-Mark w ↦ rw w.self-inside-is (kept_mark count _ kept _ _ _ _ _ _ _ _ (rw w.deref-in-Mark.ensures.value at w.in_ok-done-in-Mark.ensures.ok last) w.in_ok-done-in-Mark.ensures.whole)
+      | in-Mark+in_ok-reserve-in-Mark+in_ok-done-in-Mark w ↦ rw w.self-inside-is (kept_mark count _ kept _ _ _ _ _ _ _ _ (rw w.deref.ensures.value at w.in_ok-done-in-Mark.ensures.ok last) w.in_ok-done-in-Mark.ensures.whole)
       | in-Begin+in_ok-reserve-in-Begin+in_ok-done-in-Begin w ↦ rw w.self-inside-is (kept_begin count _ kept _ _ _ _ _ _ w.in_ok-done-in-Begin.ensures.ok w.in_ok-done-in-Begin.ensures.whole)
-      | in-Advance+in_ok-reply-in-Advance w ↦ rw w.self-inside-is (kept_advance count _ kept _ _ _ _ w.in_ok-reply-in-Advance.ensures.ok)
+      | in-Advance+in_ok-reply-in-Advance w ↦ rw w.self-inside-is (kept_advance count _ kept _ _ _ _ _ w.in_ok-reply-in-Advance.ensures.ok)
       | in-Read+in_ok-reply-in-Read w ↦ rw w.self-inside-is (kept_read count _ kept _ _ _ _ w.in_ok-reply-in-Read.ensures.ok)
       | in-Write w ↦ rw w.self-inside-is (kept_write count _ kept _ _ _ _ w.write_group-reply.ensures)
       | in-Close+in_ok-reserve-in-Close w ↦ rw w.self-inside-is (kept_close count _ kept _ _ _ _ _ _ (w.close_group-done.ensures.done last) w.close_group-done.ensures.whole)
