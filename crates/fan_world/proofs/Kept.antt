@@ -117,12 +117,12 @@ module _ (count : ℕ) (world : WorldState) (kept : IsKept count world) where
         };
       }
 
-  -- `step`
-  pub kept_advance : (access : ℕ) (reply : Reply) (listeners : List ListenerState) (accesses : List AccessState)
+  -- `step`; the greatest number that an access had is no part of what holds
+  pub kept_advance : (access last : ℕ) (reply : Reply) (listeners : List ListenerState) (accesses : List AccessState)
       → (reply, listeners, accesses) ≡ advanced world.listeners world.accesses access
-      → IsKept (count + 1) (record world { listeners = listeners; accesses = accesses })
+      → IsKept (count + 1) (record world { listeners = listeners; accesses = accesses; last_access = last })
   unfolding next
-  kept_advance access reply listeners accesses is =
+  kept_advance access last reply listeners accesses is =
       let all = advanced world.listeners world.accesses access in
       let listeners_are : listeners ≡ all.1 = ap (λ (r : Reply × List ListenerState × List AccessState). r.1) is in
       let accesses_are : accesses ≡ all.2 = ap (λ (r : Reply × List ListenerState × List AccessState). r.2) is in
@@ -130,7 +130,10 @@ module _ (count : ℕ) (world : WorldState) (kept : IsKept count world) where
       record {
         listeners = rw listeners_are (bounded_advance _ _ _ _ kept.listeners);
         marks = kept.marks;
-        sound = rw (listeners_are, accesses_are) sound;
+        sound = record {
+          marked_well = rw listeners_are sound.marked_well;
+          accesses_few = rw accesses_are sound.accesses_few;
+        };
       }
 
   -- `read`

@@ -3,7 +3,9 @@ pub mod Asked
 pub mod Begins
 pub mod Bounded
 pub mod CauseLemmas
+pub mod Counted
 pub mod Counting
+pub mod Filed
 pub mod Freed
 pub mod Kept
 pub mod OpenAccess

@@ -2,7 +2,6 @@
 ghost use Rattle.std.specs.Prelude.{◌≡◌, [], ◌<◌, ◌≤◌, IfSome, Some, slice_get, length, vec_capacity};
 ghost use Rattle.fan_bits.specs.Marks.{IsMarkList};
 ghost use Rattle.fan_bits.specs.Places.{IsPlace};
-ghost use Rattle.fan_world.specs.Tree.{goes_through};
 ghost use Rattle.fan_world.specs.Accesses.{beginning, asks, tells, who_of, asked_event, told_event, settled_one, told_one};
 ghost use Rattle.fan_world.specs.Asks.{asked_groups, told_groups, told_bit};
 ghost use Rattle.fan_world.specs.Sound.{HasFew};
@@ -12,6 +11,7 @@ use super::interests::groups_wanting;
 use fan_bits::{InitWords, Place};
 use fan_listener::{Event, Target};
 use fan_marks::MarkBook;
+use std::alloc::Global;
 use std::marker::Model;
 
 /// The number that an access is to have, and the process and thread that begin it.
@@ -155,11 +155,28 @@ impl Access {
         }
     }
 
-    /// Whether it was begun through a mount.
-    pub(crate) fn goes_through(&self, mount: u32) -> bool
-        ensures { result ≡ goes_through mount self.now }
+    /// An access that begins, and has not found yet whom it asks and tells. Takes no memory.
+    pub(crate) fn blank(alloc: Global, opening: Opening, deed: Deed, place: Place) -> Access
+        ensures number { result.number ≡ opening.number }
+        ensures place { result.place ≡ place }
     {
-        self.place.mount == mount
+        Access {
+            opening,
+            deed,
+            place,
+            to_ask: Vec::new(alloc),
+            to_tell: Vec::new(alloc),
+            settled: 0,
+            waiting: None,
+            told: 0,
+        }
+    }
+
+    /// The mount through which it was begun.
+    pub(crate) fn mount(&self) -> u32
+        ensures { result ≡ self.now.place.mount }
+    {
+        self.place.mount
     }
 
     /// Its number.

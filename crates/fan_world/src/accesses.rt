@@ -1,9 +1,10 @@
 // The open accesses: how one begins, and its single steps.
-ghost use Rattle.std.specs.Prelude.{◌≡◌, ℕ, [], ◌∷◌, ◌++◌, ◌<◌, ◌^◌, length, position, Some, None, IfOk, IfSome, OnErr, if◌then◌else◌};
-ghost use Rattle.fan_world.specs.Accesses.{AccessState, beginning, has_number, kept_access};
+ghost use Rattle.std.specs.Prelude.{◌≡◌, ℕ, [], ◌∷◌, ◌++◌, ◌<◌, ◌^◌, length, IfOk, OnErr};
+ghost use Rattle.fan_world.specs.Accesses.{beginning};
 ghost use Rattle.fan_world.specs.Asks.{marks_seen};
 ghost use Rattle.fan_world.specs.Batches.{noted};
 ghost use Rattle.fan_world.specs.Bounds.{AreBounded};
+ghost use Rattle.fan_world.specs.Opened.{step_reply};
 ghost use Rattle.fan_world.specs.Retiring.{begun_so, begun_with};
 ghost use Rattle.fan_world.specs.Sound.{FindFew};
 ghost use Rattle.fan_bits.specs.Marks.{IsMarkList};
@@ -16,7 +17,7 @@ use super::files::Files;
 use super::groups::Groups;
 use super::interests::room_for_groups;
 use super::marks::{Marks, retire};
-use super::stepping::step;
+use super::open_accesses::OpenAccesses;
 use fan_bits::{Change, Errno, Place};
 use fan_io::{Items, NoMemory};
 use fan_marks::MarkBook;
@@ -50,8 +51,7 @@ pub(crate) fn begin(
     alloc: Global,
     files: &Files,
     marks: &mut Marks,
-    accesses: &mut Vec<Access>,
-    last_access: &mut u32,
+    accesses: &mut OpenAccesses,
     opening: Opening,
     op: OpWord,
     path: &[u8],
@@ -62,21 +62,19 @@ pub(crate) fn begin(
       reply,
       marks.new.book.marks,
       marks.new.retirement.state,
-      accesses.new.items,
-      last_access.new,
+      accesses.new.accesses,
+      accesses.new.last,
     )
         ≡ begun_with marks.old.retirement.state (begun_by op files.now.tree files.now.mounts
-        marks.old.book.marks accesses.old.items last_access.old opening path.now)) }
+        marks.old.book.marks accesses.old.accesses accesses.old.last opening path.now)) }
     ensures whole { IsMarkList marks.new.book.marks }
     ensures marks { OnErr result (marks.new.book.marks ≡ marks.old.book.marks) }
     ensures retirement { OnErr result (marks.new.retirement.state ≡ marks.old.retirement.state) }
-    ensures accesses { OnErr result (accesses.new.items ≡ accesses.old.items) }
-    ensures last_access { OnErr result (last_access.new ≡ last_access.old) }
+    ensures accesses { OnErr result (accesses.new ≡ accesses.old) }
 {
     marks.retirement.reserve()?;
-    let book = &mut marks.book;
-    let done = begin_op(alloc, files, book, accesses, last_access, opening, op, path)?;
-    Ok(marks.retirement.note(done, *last_access))
+    let done = begin_op(alloc, files, &mut marks.book, accesses, opening, op, path)?;
+    Ok(marks.retirement.note(done, accesses.last()))
 }
 
 // Begins an access of what a path reaches: EINVAL for an operation that isn't built yet, EEXIST, the
@@ -86,8 +84,7 @@ fn begin_op(
     alloc: Global,
     files: &Files,
     book: &mut MarkBook,
-    accesses: &mut Vec<Access>,
-    last_access: &mut u32,
+    accesses: &mut OpenAccesses,
     opening: Opening,
     op: OpWord,
     path: &[u8],
@@ -96,27 +93,17 @@ fn begin_op(
     requires few { FindFew book.old.marks }
     ensures ok { IfOk result (λ done. (
       done.reply,
-      begun_so book.new.marks accesses.new.items last_access.new done.retired,
+      begun_so book.new.marks accesses.new.accesses accesses.new.last done.retired,
     )
-        ≡ begun_by op files.now.tree files.now.mounts book.old.marks accesses.old.items last_access.old
+        ≡ begun_by op files.now.tree files.now.mounts book.old.marks accesses.old.accesses accesses.old.last
         opening path.now) }
     ensures whole { IsMarkList book.new.marks }
     ensures marks { OnErr result (book.new.marks ≡ book.old.marks) }
-    ensures accesses { OnErr result (accesses.new.items ≡ accesses.old.items) }
-    ensures last_access { OnErr result (last_access.new ≡ last_access.old) }
+    ensures accesses { OnErr result (accesses.new ≡ accesses.old) }
 {
     match deed_of(op) {
         None => Ok(Replied::refused(Errno::Einval)),
-        Some(deed) => begin_deed(
-            alloc,
-            files,
-            book,
-            accesses,
-            last_access,
-            opening,
-            deed,
-            path,
-        ),
+        Some(deed) => begin_deed(alloc, files, book, accesses, opening, deed, path),
     }
 }
 
@@ -126,8 +113,7 @@ fn begin_deed(
     alloc: Global,
     files: &Files,
     book: &mut MarkBook,
-    accesses: &mut Vec<Access>,
-    last_access: &mut u32,
+    accesses: &mut OpenAccesses,
     opening: Opening,
     deed: Deed,
     path: &[u8],
@@ -136,16 +122,15 @@ fn begin_deed(
     requires few { FindFew book.old.marks }
     ensures ok { IfOk result (λ done. (
       done.reply,
-      begun_so book.new.marks accesses.new.items last_access.new done.retired,
+      begun_so book.new.marks accesses.new.accesses accesses.new.last done.retired,
     )
-        ≡ begun files.now.tree files.now.mounts book.old.marks accesses.old.items last_access.old
+        ≡ begun files.now.tree files.now.mounts book.old.marks accesses.old.accesses accesses.old.last
         opening deed path.now) }
     ensures whole { IsMarkList book.new.marks }
     ensures marks { OnErr result (book.new.marks ≡ book.old.marks) }
-    ensures accesses { OnErr result (accesses.new.items ≡ accesses.old.items) }
-    ensures last_access { OnErr result (last_access.new ≡ last_access.old) }
+    ensures accesses { OnErr result (accesses.new ≡ accesses.old) }
 {
-    if opening.number <= *last_access {
+    if opening.number <= accesses.last() {
         return Ok(Replied::refused(Errno::Eexist));
     }
     let place = match files.place(path) {
@@ -156,38 +141,40 @@ fn begin_deed(
         return Ok(Replied::refused(Errno::Eisdir));
     }
     let retired = begin_at(alloc, book, accesses, opening, deed, place)?;
-    *last_access = opening.number;
     Ok(Replied::done(retired))
 }
 
 // Begins an access of a place, and gives how many marks that retires. All memory is taken first, since
-// an ignored set that was emptied can't be filled again.
+// an ignored set that was emptied can't be filled again: so a blank access holds the place of the one
+// that goes by the marks after that.
 fn begin_at(
     alloc: Global,
     marks: &mut MarkBook,
-    accesses: &mut Vec<Access>,
+    accesses: &mut OpenAccesses,
     opening: Opening,
     deed: Deed,
     place: Place,
 ) -> Result<u32, NoMemory>
+    requires number { accesses.old.last < opening.number }
     requires whole { IsMarkList marks.old.marks }
     requires few { FindFew marks.old.marks }
     requires place { IsPlace place }
     ensures marks { IfOk result (λ _. marks.new.marks ≡ marks_seen deed marks.old.marks place) }
-    ensures accesses { IfOk result (λ _. accesses.new.items ≡ accesses.old.items
+    ensures accesses { IfOk result (λ _. accesses.new.accesses ≡ accesses.old.accesses
         ++ beginning opening deed place (marks_seen deed marks.old.marks place) ∷ []) }
+    ensures last { IfOk result (λ _. accesses.new.last ≡ opening.number) }
     ensures retired { IfOk result (λ retired. noted retired opening.number
         ≡ retired_at_begin deed marks.old.marks place opening.number) }
     ensures whole { IsMarkList marks.new.marks }
     ensures marks_stay { OnErr result (marks.new.marks ≡ marks.old.marks) }
-    ensures accesses_stay { OnErr result (accesses.new.items ≡ accesses.old.items) }
+    ensures accesses_stay { OnErr result (accesses.new ≡ accesses.old) }
 {
-    accesses.reserve(1)?;
     let room_to_ask = room_for_groups(alloc)?;
     let room_to_tell = room_for_groups(alloc)?;
+    accesses.add(Access::blank(alloc, opening, deed, place))?;
     let retired = empty_ignored(marks, deed, &place);
     let access = Access::begin(room_to_ask, room_to_tell, opening, deed, place, marks);
-    accesses.push_reserved(access);
+    accesses.replace(access);
     Ok(retired)
 }
 
@@ -212,56 +199,35 @@ fn empty_ignored(marks: &mut MarkBook, deed: Deed, place: &Place) -> u32
     }
 }
 
-// The place of an open access.
-fn place_of_access(accesses: &[Access], number: u32) -> Option<usize>
-    ensures found { result ≡ position (has_number number) accesses.now }
-    ensures within { IfSome result (λ place. place < length accesses.now) }
-{
-    accesses.iter().position(|access| access.number() == number)
-}
-
-/// Does the next single step of an access.
-#[tactic(auto, unfolding(crate::specs::World::advanced))]
+/// Does the next single step of an access: ESRCH where no such access is open.
 pub(crate) fn advance(
     alloc: Global,
     groups: &mut Groups,
-    accesses: &mut Vec<Access>,
+    accesses: &mut OpenAccesses,
     number: u32,
 ) -> Result<Reply, NoMemory>
     requires { AreBounded (2 ^ 30) groups.old }
-    ensures ok { IfOk result (λ reply. (reply, groups.new, accesses.new.items)
-        ≡ advanced groups.old accesses.old.items number) }
+    ensures ok { IfOk result (λ reply. (reply, groups.new, accesses.new.accesses)
+        ≡ advanced groups.old accesses.old.accesses number) }
+    ensures last { accesses.new.last ≡ accesses.old.last }
     ensures groups { OnErr result (groups.new ≡ groups.old) }
-    ensures accesses { OnErr result (accesses.new.items ≡ accesses.old.items) }
+    ensures accesses { OnErr result (accesses.new ≡ accesses.old) }
 {
-    let Some(place) = place_of_access(accesses, number) else {
-        return Ok(Reply::Refused(Errno::Esrch));
-    };
     let outcomes = vec![in alloc; StepOutcome::Done]?;
-    let access = &mut accesses[place];
-    let outcome = step(groups, access)?;
-    if is_finished(outcome) {
-        let _ = accesses.remove(place);
-    }
+    let outcome = accesses.step(groups, number)?;
     Ok(reply_of(outcomes, outcome))
 }
 
-// The reply of one outcome, in a vector of one that is there already.
-fn reply_of(mut outcomes: Vec<StepOutcome>, outcome: StepOutcome) -> Reply
+// The reply to a single step, in a vector of one that is there already.
+fn reply_of(mut outcomes: Vec<StepOutcome>, outcome: Option<StepOutcome>) -> Reply
     requires { length outcomes.items ≡ 1 }
-    ensures { result ≡ Reply.Out (outcome ∷ []) }
-{
-    outcomes[0] = outcome;
-    Reply::Out(Items::from_vec(outcomes))
-}
-
-// Whether an access is finished after this outcome.
-fn is_finished(outcome: StepOutcome) -> bool
-    ensures { (access : AccessState) → kept_access outcome access
-        ≡ (if result then None else Some access) }
+    ensures { result ≡ step_reply outcome }
 {
     match outcome {
-        StepOutcome::Denied(_) | StepOutcome::Done => true,
-        _ => false,
+        None => Reply::Refused(Errno::Esrch),
+        Some(outcome) => {
+            outcomes[0] = outcome;
+            Reply::Out(Items::from_vec(outcomes))
+        }
     }
 }

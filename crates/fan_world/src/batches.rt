@@ -2,7 +2,7 @@
 ghost use Rattle.std.specs.Prelude.{◌≡◌, ◌≤◌, ◌<◌, ◌^◌, OnOk};
 ghost use Rattle.fan_world.specs.Batches.{count_retired, graced, held_batch, is_held, noted, nothing_retired, reclaimed_of, started, with_retired};
 
-use super::access::Access;
+use super::open_accesses::OpenAccesses;
 use fan_bits::Errno;
 use fan_io::NoMemory;
 use fan_script::Reply;
@@ -68,11 +68,10 @@ impl Model for Batch {
 
 impl Batch {
     // Whether one of its accesses is open. Numbers rise, so its accesses are the open ones up to `last`.
-    fn is_held(&self, accesses: &[Access]) -> bool
-        ensures { result ≡ is_held self.now accesses.now }
+    fn is_held(&self, accesses: &OpenAccesses) -> bool
+        ensures { result ≡ is_held self.now accesses.now.accesses }
     {
-        let last = self.last;
-        accesses.iter().any(|access| access.number() <= last)
+        accesses.has_up_to(self.last)
     }
 
     // How many marks it has.
@@ -162,19 +161,22 @@ impl Retirement {
     /// Reclaims the batch under way, where no access of it is open, and then starts one where none is
     /// under way. Gives how many marks were reclaimed. Takes no memory.
     #[tactic(auto, unfolding(crate::specs::Batches::graced))]
-    pub(crate) fn grace(&mut self, accesses: &[Access], last: u32) -> u64
-        ensures { (result, self.new.state) ≡ graced self.old.state accesses.now last }
+    pub(crate) fn grace(&mut self, accesses: &OpenAccesses) -> u64
+        ensures { (result, self.new.state)
+            ≡ graced self.old.state accesses.now.accesses accesses.now.last }
     {
         let reclaimed = self.reclaim(accesses);
-        self.start(last);
+        self.start(accesses.last());
         reclaimed
     }
 
     // Reclaims the batch under way, where no access of it is open.
-    fn reclaim(&mut self, accesses: &[Access]) -> u64
-        ensures count { result ≡ count_retired (reclaimed_of self.old.state.batch accesses.now) }
-        ensures state { self.new.state
-            ≡ record self.old.state { batch = held_batch self.old.state.batch accesses.now } }
+    fn reclaim(&mut self, accesses: &OpenAccesses) -> u64
+        ensures count { result
+            ≡ count_retired (reclaimed_of self.old.state.batch accesses.now.accesses) }
+        ensures state { self.new.state ≡ record self.old.state {
+          batch = held_batch self.old.state.batch accesses.now.accesses;
+        } }
     {
         match self.batch.take() {
             None => 0,

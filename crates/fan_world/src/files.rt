@@ -1,6 +1,5 @@
 // The file tree with its mounts, and the steps that change them. A refused step changes nothing.
 ghost use Rattle.std.specs.Prelude.{◌≡◌, ℕ, IfOk, OnErr, is_some, true};
-ghost use Rattle.std.specs.List.{list_any};
 ghost use Rattle.fan_bits.specs.Marks.{IsMarkList};
 ghost use Rattle.fan_bits.specs.Places.{IsPlace};
 ghost use Rattle.fan_mounts.specs.Mounts.{mount_of, opening_mounts, unmounted};
@@ -8,11 +7,11 @@ ghost use Rattle.fan_mounts.specs.Reaches.{place_of};
 ghost use Rattle.fan_tree.specs.Tree.{made, opening_tree};
 ghost use Rattle.fan_world.specs.Batches.{noted};
 ghost use Rattle.fan_world.specs.Retiring.{noted_with};
-ghost use Rattle.fan_world.specs.Tree.{fs_made, goes_through, made_at, made_reply, mounted_at, umount_reply, unmounted_at};
+ghost use Rattle.fan_world.specs.Tree.{fs_made, made_at, made_reply, mounted_at, umount_reply, unmounted_at};
 
-use super::access::Access;
 use super::batches::Replied;
 use super::marks::{Marks, retire};
+use super::open_accesses::OpenAccesses;
 use fan_bits::{Change, Errno, Place};
 use fan_io::NoMemory;
 use fan_marks::MarkBook;
@@ -115,13 +114,6 @@ fn make_in(tree: &mut Tree, dir: u32, name: &[u8], is_dir: bool) -> Result<Reply
     }
 }
 
-// Whether some access was begun through a mount.
-fn is_in_use(accesses: &[Access], mount: u32) -> bool
-    ensures { result ≡ list_any (goes_through mount) accesses.now }
-{
-    accesses.iter().any(|access| access.goes_through(mount))
-}
-
 // Removes a mount and drops its marks. Takes no memory.
 #[tactic(auto, unfolding(crate::specs::Batches::retired_by))]
 fn remove_mount(mounts: &mut Mounts, book: &mut MarkBook, mount: u32) -> Replied
@@ -140,12 +132,17 @@ fn remove_mount(mounts: &mut Mounts, book: &mut MarkBook, mount: u32) -> Replied
 
 // Removes the mount whose root a path reaches: the walk, EINVAL, EBUSY. Takes no memory.
 #[tactic(auto, unfolding(crate::specs::Tree::unmounted_at))]
-fn take_mount(files: &mut Files, book: &mut MarkBook, accesses: &[Access], path: &[u8]) -> Replied
+fn take_mount(
+    files: &mut Files,
+    book: &mut MarkBook,
+    accesses: &OpenAccesses,
+    path: &[u8],
+) -> Replied
     requires { IsMarkList book.old.marks }
     ensures whole { IsMarkList book.new.marks }
     ensures done { (last : ℕ) →
         (result.reply, files.new.mounts, book.new.marks, noted result.retired last)
-        ≡ unmounted_at files.old.tree files.old.mounts book.old.marks accesses.now last path.now }
+        ≡ unmounted_at files.old.tree files.old.mounts book.old.marks accesses.now.accesses last path.now }
     ensures tree { files.new.tree ≡ files.old.tree }
 {
     let place = match files.place(path) {
@@ -155,7 +152,7 @@ fn take_mount(files: &mut Files, book: &mut MarkBook, accesses: &[Access], path:
     if place.parent.is_some() {
         return Replied::refused(Errno::Einval);
     }
-    if is_in_use(accesses, place.mount) {
+    if accesses.has_through(place.mount) {
         return Replied::refused(Errno::Ebusy);
     }
     remove_mount(&mut files.mounts, book, place.mount)
@@ -165,15 +162,14 @@ fn take_mount(files: &mut Files, book: &mut MarkBook, accesses: &[Access], path:
 pub(crate) fn umount(
     files: &mut Files,
     marks: &mut Marks,
-    accesses: &[Access],
-    last: u32,
+    accesses: &OpenAccesses,
     path: &[u8],
 ) -> Result<Reply, NoMemory>
     requires { IsMarkList marks.old.book.marks }
     ensures ok { IfOk result (λ reply.
         (reply, files.new.mounts, marks.new.book.marks, marks.new.retirement.state)
         ≡ noted_with marks.old.retirement.state (unmounted_at files.old.tree files.old.mounts
-        marks.old.book.marks accesses.now last path.now)) }
+        marks.old.book.marks accesses.now.accesses accesses.now.last path.now)) }
     ensures tree { files.new.tree ≡ files.old.tree }
     ensures whole { IsMarkList marks.new.book.marks }
     ensures files { OnErr result (files.new ≡ files.old) }
@@ -182,5 +178,5 @@ pub(crate) fn umount(
 {
     marks.retirement.reserve()?;
     let done = take_mount(files, &mut marks.book, accesses, path);
-    Ok(marks.retirement.note(done, last))
+    Ok(marks.retirement.note(done, accesses.last()))
 }

@@ -5,12 +5,14 @@
 mod access;
 mod accesses;
 mod batches;
+mod counts;
 mod files;
 mod groups;
 mod interests;
 mod laws;
 mod listeners;
 mod marks;
+mod open_accesses;
 mod reclaim_law;
 mod run_law;
 mod stepping;

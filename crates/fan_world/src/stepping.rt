@@ -18,6 +18,8 @@ pub(crate) fn step(groups: &mut Groups, access: &mut Access) -> Result<StepOutco
         ≡ access_step groups.old access.old) }
     ensures groups { OnErr result (groups.new ≡ groups.old) }
     ensures access { OnErr result (access.new ≡ access.old) }
+    ensures number { access.new.number ≡ access.old.number }
+    ensures place { access.new.place ≡ access.old.place }
 {
     if let Some(asked) = access.waiting() {
         return Ok(look(groups, access, asked));
@@ -35,8 +37,10 @@ pub(crate) fn step(groups: &mut Groups, access: &mut Access) -> Result<StepOutco
 #[tactic(auto, unfolding(crate::specs::Accesses::looked))]
 fn look(groups: &mut Groups, access: &mut Access, asked: WaitingFor) -> StepOutcome
     requires { access.old.settled < length (asks access.old) }
-    ensures { (result, groups.new, kept_access result access.new)
+    ensures ok { (result, groups.new, kept_access result access.new)
         ≡ looked asked groups.old access.old }
+    ensures number { access.new.number ≡ access.old.number }
+    ensures place { access.new.place ≡ access.old.place }
 {
     let group = asked.group;
     match groups.answer_of(group, asked.entry) {
@@ -63,6 +67,8 @@ fn ask(groups: &mut Groups, access: &mut Access, group: u32) -> Result<StepOutco
         ≡ asked_next group groups.old access.old) }
     ensures groups { OnErr result (groups.new ≡ groups.old) }
     ensures access { OnErr result (access.new ≡ access.old) }
+    ensures number { access.new.number ≡ access.old.number }
+    ensures place { access.new.place ≡ access.old.place }
 {
     match groups.ask(group, access)? {
         Put::Queued { entry } => {
@@ -90,6 +96,8 @@ fn tell(groups: &mut Groups, access: &mut Access, group: u32) -> Result<StepOutc
         ≡ told_next group groups.old access.old) }
     ensures groups { OnErr result (groups.new ≡ groups.old) }
     ensures access { OnErr result (access.new ≡ access.old) }
+    ensures number { access.new.number ≡ access.old.number }
+    ensures place { access.new.place ≡ access.old.place }
 {
     let put = groups.tell(group, access)?;
     access.tell_one();

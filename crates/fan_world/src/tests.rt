@@ -189,6 +189,28 @@ fn a_denial_ends_an_opening_before_a_group_is_told(rt: HostRuntime) -> Result<()
 }
 
 #[test]
+fn a_mount_is_busy_until_the_last_access_through_it_ends(rt: HostRuntime) -> Result<(), Fail> {
+    let rows = [
+        ("mkfs", "Fs(4)"),
+        ("mkdir /m", "Inode(6)"),
+        ("mount 4 /m", "Mount(7)"),
+        ("mkfile /m/f", "Inode(8)"),
+        ("begin 1 41 41 open /m/f", "Done"),
+        ("begin 3 41 41 open /m", "Done"),
+        ("begin 9 41 41 open /", "Done"),
+        ("umount /m", "Refused(Ebusy)"),
+        ("run 3", "[Done]"),
+        ("run 3", "Refused(Esrch)"),
+        ("umount /m", "Refused(Ebusy)"),
+        ("run 1", "[Done]"),
+        ("umount /m", "Done"),
+        ("begin 8 41 41 open /", "Refused(Eexist)"),
+        ("run 9", "[Done]"),
+    ];
+    assert_answers(&rt, rt.alloc(), &rows)
+}
+
+#[test]
 fn a_write_empties_the_ignored_sets_that_do_not_survive_it(rt: HostRuntime) -> Result<(), Fail> {
     let rows = [
         ("mkfile /a", "Inode(4)"),

@@ -2,11 +2,12 @@
 ghost use Rattle.std.specs.Prelude.{◌≡◌, ◌+◌, ◌<◌, ◌≤◌, ◌^◌, length, IfOk, OnOk, OnErr, IfSome};
 ghost use Rattle.fan_world.specs.World.{next, opening_world};
 
-use super::access::{Access, Opening};
+use super::access::Opening;
 use super::accesses::{advance, begin};
 use super::files::{Files, umount};
 use super::groups::{Groups, close_group};
 use super::marks::{MarkLine, Marks, mark};
+use super::open_accesses::OpenAccesses;
 use fan_bits::Errno;
 use fan_io::NoMemory;
 use fan_script::{Reply, Step};
@@ -20,8 +21,7 @@ pub struct World {
     files: Files,
     groups: Groups,
     marks: Marks,
-    accesses: Vec<Access>,
-    last_access: u32,
+    accesses: OpenAccesses,
     steps: u32,
 }
 
@@ -38,8 +38,8 @@ impl Model for World {
         listeners = w.groups;
         marks = w.marks.book.marks;
         retirement = w.marks.retirement.state;
-        accesses = w.accesses.items;
-        last_access = w.last_access;
+        accesses = w.accesses.accesses;
+        last_access = w.accesses.last;
       };
       steps = w.steps;
     } };
@@ -50,8 +50,8 @@ impl Model for World {
       listeners = w.groups;
       marks = w.marks.book.marks;
       retirement = w.marks.retirement.state;
-      accesses = w.accesses.items;
-      last_access = w.last_access;
+      accesses = w.accesses.accesses;
+      last_access = w.accesses.last;
     }) };
 }
 
@@ -65,8 +65,7 @@ impl World {
             files: Files::new(alloc)?,
             groups: Groups::new(alloc),
             marks: Marks::new(alloc)?,
-            accesses: Vec::new(alloc),
-            last_access: 0,
+            accesses: OpenAccesses::new(alloc),
             steps: 0,
         })
     }
@@ -86,7 +85,7 @@ impl World {
         ensures steps { OnOk result (self.new.steps ≡ self.old.steps + 1) }
         ensures err { OnErr result (self.new ≡ self.old) }
     {
-        let last = self.last_access;
+        let last = self.accesses.last();
         let reply = match step {
             Step::MkFile { path } => self.files.make_entry(path.as_slice(), false)?,
             Step::MkDir { path } => self.files.make_entry(path.as_slice(), true)?,
@@ -97,7 +96,6 @@ impl World {
                     &mut self.files,
                     &mut self.marks,
                     &self.accesses,
-                    last,
                     path.as_slice(),
                 )?
             }
@@ -136,7 +134,6 @@ impl World {
                     &self.files,
                     &mut self.marks,
                     &mut self.accesses,
-                    &mut self.last_access,
                     Opening::new(*access, *pid, *tid),
                     *op,
                     path.as_slice(),
@@ -150,7 +147,7 @@ impl World {
             Step::Close { group } => {
                 close_group(&mut self.groups, &mut self.marks, last, *group)?
             }
-            Step::Grace => { Reply::Reclaimed(self.marks.retirement.grace(&self.accesses, last)) }
+            Step::Grace => { Reply::Reclaimed(self.marks.retirement.grace(&self.accesses)) }
         };
         self.steps += 1;
         Ok(reply)
