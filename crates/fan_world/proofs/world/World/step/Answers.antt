@@ -21,11 +21,11 @@ invariant_of-self-2 c =
       | in-Umount+in_ok-reply-in-Umount w ↦ rw w.self-inside-is (kept_umount count _ kept _ _ _ _ _ _ w.in_ok-reply-in-Umount.ensures.ok w.in_ok-reply-in-Umount.ensures.whole)
       | in-Limit w ↦ rw w.self-inside-is (kept_tree count _ kept _ _ _)
       | in-Init+in_ok-reply-in-Init w ↦ rw w.self-inside-is (kept_init count _ kept _ _ _ w.in_ok-reply-in-Init.ensures.ok)
-      | in-Mark+in_ok-reply-in-Mark w ↦ rw w.self-inside-is (kept_mark count _ kept _ _ _ _ _ _ _ w.in_ok-reply-in-Mark.ensures.ok w.in_ok-reply-in-Mark.ensures.whole)
+      | in-Mark+in_ok-reply-in-Mark w ↦ rw w.self-inside-is (kept_mark count _ kept _ _ _ _ _ _ _ (rw c.last-last.ensures at w.in_ok-reply-in-Mark.ensures.ok) w.in_ok-reply-in-Mark.ensures.whole)
       | in-Begin+in_ok-reply-in-Begin w ↦ rw w.self-inside-is (kept_begin count _ kept _ _ _ _ _ _ _ _ w.in_ok-reply-in-Begin.ensures.ok w.in_ok-reply-in-Begin.ensures.whole)
       | in-Advance+in_ok-reply-in-Advance w ↦ rw w.self-inside-is (kept_advance count _ kept _ _ _ _ _ w.in_ok-reply-in-Advance.ensures.ok)
       | in-Read+in_ok-reply-in-Read w ↦ rw w.self-inside-is (kept_read count _ kept _ _ _ _ w.in_ok-reply-in-Read.ensures.ok)
       | in-Write w ↦ rw w.self-inside-is (kept_write count _ kept _ _ _ _ w.write-reply.ensures)
-      | in-Close+in_ok-reply-in-Close w ↦ rw w.self-inside-is (kept_close count _ kept _ _ _ _ _ w.in_ok-reply-in-Close.ensures.ok w.in_ok-reply-in-Close.ensures.whole)
+      | in-Close+in_ok-reply-in-Close w ↦ rw w.self-inside-is (kept_close count _ kept _ _ _ _ _ (rw c.last-last.ensures at w.in_ok-reply-in-Close.ensures.ok) w.in_ok-reply-in-Close.ensures.whole)
       | in-Grace w ↦ rw w.self-inside-is (kept_tree count _ kept _ _ _)
     ]
