@@ -1,23 +1,16 @@
 -- What holds of the machine holds after each step, over plain values.
-use Rattle.std.proofs.Common.{◌≡◌, ℕ, ◌+◌, List, Option, None, ap}
+use Rattle.std.proofs.Common.{◌≡◌, ℕ, ◌+◌, Bool, true, false, List, Option, ap, refl}
 use Rattle.fan_bits.specs.declared.mark.Mark.{Mark}
+use Rattle.fan_bits.specs.declared.errno.Errno.TheVariants as errno
 use Rattle.fan_bits.specs.Marks.{IsMarkList}
-use Rattle.fan_listener.specs.ListenerState.{ListenerState}
-use Rattle.fan_mounts.specs.declared.mount.Mount.{Mount}
 use Rattle.fan_script.specs.declared.reply.Reply.{Reply}
-use Rattle.fan_script.specs.declared.step.OpWord.{OpWord}
+use Rattle.fan_script.specs.declared.reply.Reply.TheVariants as replies
+use Rattle.fan_script.specs.declared.step.Step.{Step}
 use Rattle.fan_script.specs.declared.step.Step.TheVariants as steps
-use Rattle.fan_tree.specs.Tree.{TreeState}
-use Rattle.fan_world.specs.declared.access.Opening.{Opening}
-use Rattle.fan_world.specs.Accesses.{AccessState}
 use Rattle.fan_world.specs.Asks.{marks_seen}
-use Rattle.fan_world.specs.Batches.{RetirementState}
-use Rattle.fan_world.specs.Bounds.{IsKept}
-use Rattle.fan_world.specs.Marking.{marked}
-use Rattle.fan_world.specs.Retiring.{begun_with, marked_with, noted_with}
+use Rattle.fan_world.specs.Bounds.{AreBounded, IsKept}
 use Rattle.fan_world.specs.Sound.{AreSound, FindFew}
-use Rattle.fan_world.specs.Tree.{unmounted_at}
-use Rattle.fan_world.specs.World.{WorldState, next, advanced, begun_by, closed_group, grouped, read_from, written_to}
+use Rattle.fan_world.specs.World.{WorldState, next}
 use Rattle.fan_world.proofs.Bounded.{bounded_later, bounded_group, bounded_advance, bounded_read, bounded_write, bounded_close}
 use Rattle.fan_world.proofs.Sound.{few_beginning, sound_next}
 use Rattle.fan_world.proofs.Standing.{stand_seen}
@@ -29,159 +22,78 @@ find_few groups marks sound opening deed place =
     record { few = sound.few; each = stand_seen groups deed marks place sound.each } in
     few_beginning groups opening deed place (marks_seen deed marks place) seen
 
-module _ (count : ℕ) (world : WorldState) (kept : IsKept count world) where
-  -- a step of the tree and its mounts, or of what is retired
-  pub kept_tree : (tree : TreeState) (mounts : List Mount) (retirement : RetirementState)
-      → IsKept (count + 1) (record world { tree = tree; mounts = mounts; retirement = retirement })
-  kept_tree tree mounts retirement = record {
-    listeners = bounded_later count world.listeners kept.listeners;
-    marks = kept.marks;
-    sound = record { marked_well = kept.sound.marked_well; accesses_few = kept.sound.accesses_few };
+-- a step adds one at most to what is bounded of the listeners
+bounded_next : (count : ℕ) (world : WorldState) (step : Step) → AreBounded count world.listeners
+    → AreBounded (count + 1) (next world step).1.listeners
+unfolding next
+bounded_next count world (steps.MkFile path) bounded = bounded_later count world.listeners bounded
+bounded_next count world (steps.MkDir path) bounded = bounded_later count world.listeners bounded
+bounded_next count world steps.MkFs bounded = bounded_later count world.listeners bounded
+bounded_next count world (steps.Mount fs path) bounded = bounded_later count world.listeners bounded
+bounded_next count world (steps.Umount path) bounded = bounded_later count world.listeners bounded
+bounded_next count world (steps.Limit entries) bounded = bounded_later count world.listeners bounded
+bounded_next count world (steps.Init flags) bounded = bounded_group _ _ _ bounded
+bounded_next count world (steps.Mark group flags mask path) bounded = bounded_later count world.listeners bounded
+bounded_next count world (steps.Begin access pid tid op path second) bounded =
+    bounded_later count world.listeners bounded
+bounded_next count world (steps.Advance access) bounded = bounded_advance _ _ _ _ bounded
+bounded_next count world (steps.Read group size) bounded = bounded_read _ _ _ _ bounded
+bounded_next count world (steps.Write group bytes) bounded = bounded_write _ _ _ _ bounded
+bounded_next count world (steps.Close group) bounded = bounded_close _ _ _ _ _ bounded
+bounded_next count world steps.Grace bounded = bounded_later count world.listeners bounded
+
+-- `limit` changes nothing
+pub limit_is : (world : WorldState) (entries : ℕ) → (replies.Refused errno.Einval, world) ≡ next world (steps.Limit entries)
+unfolding next
+limit_is world entries = refl
+
+-- a step that never changes the marks
+abbrev pub leaves_marks : Step → Bool
+leaves_marks (steps.MkFile path) = true
+leaves_marks (steps.MkDir path) = true
+leaves_marks steps.MkFs = true
+leaves_marks (steps.Mount fs path) = true
+leaves_marks (steps.Umount path) = false
+leaves_marks (steps.Limit entries) = true
+leaves_marks (steps.Init flags) = true
+leaves_marks (steps.Mark group flags mask path) = false
+leaves_marks (steps.Begin access pid tid op path second) = false
+leaves_marks (steps.Advance access) = true
+leaves_marks (steps.Read group size) = true
+leaves_marks (steps.Write group bytes) = true
+leaves_marks (steps.Close group) = false
+leaves_marks steps.Grace = true
+
+marks_left : (world : WorldState) (step : Step) → leaves_marks step ≡ true → (next world step).1.marks ≡ world.marks
+unfolding next
+marks_left world (steps.MkFile path) leaves = refl
+marks_left world (steps.MkDir path) leaves = refl
+marks_left world steps.MkFs leaves = refl
+marks_left world (steps.Mount fs path) leaves = refl
+marks_left world (steps.Umount path) leaves = absurd cc
+marks_left world (steps.Limit entries) leaves = refl
+marks_left world (steps.Init flags) leaves = refl
+marks_left world (steps.Mark group flags mask path) leaves = absurd cc
+marks_left world (steps.Begin access pid tid op path second) leaves = absurd cc
+marks_left world (steps.Advance access) leaves = refl
+marks_left world (steps.Read group size) leaves = refl
+marks_left world (steps.Write group bytes) leaves = refl
+marks_left world (steps.Close group) leaves = absurd cc
+marks_left world steps.Grace leaves = refl
+
+module _ (count : ℕ) (world after : WorldState) (step : Step) (reply : Reply) (kept : IsKept count world)
+    (is : (reply, after) ≡ next world step) where
+  after_is : after ≡ (next world step).1
+  after_is = ap (λ (r : Reply × WorldState). r.1) is
+
+  -- what a step makes, where the marks are whole after it
+  pub kept_next : IsMarkList after.marks → IsKept (count + 1) after
+  kept_next whole = record {
+    listeners = rw after_is (bounded_next count world step kept.listeners);
+    marks = whole;
+    sound = rw after_is (sound_next world step kept.sound);
   }
 
-  -- `umount`
-  pub kept_umount : (path : List ℕ) (reply : Reply) (tree : TreeState) (mounts : List Mount) (marks : List Mark)
-      (retirement : RetirementState)
-      → (reply, mounts, marks, retirement) ≡ noted_with world.retirement
-      (unmounted_at world.tree world.mounts world.marks world.accesses world.last_access path)
-      → IsMarkList marks
-      → IsKept (count + 1) (record world { tree = tree; mounts = mounts; marks = marks; retirement = retirement })
-  unfolding next
-  kept_umount path reply tree mounts marks retirement is whole =
-      let all = unmounted_at world.tree world.mounts world.marks world.accesses world.last_access path in
-      let marks_are : marks ≡ all.2 = ap (λ (r : Reply × List Mount × List Mark × RetirementState). r.2) is in
-      let sound = sound_next world (steps.Umount path) kept.sound in
-      record {
-        listeners = bounded_later count world.listeners kept.listeners;
-        marks = whole;
-        sound = record { marked_well = rw marks_are sound.marked_well; accesses_few = kept.sound.accesses_few };
-      }
-
-  -- `init`
-  pub kept_init : (flags : ℕ) (reply : Reply) (listeners : List ListenerState)
-      → (reply, listeners) ≡ grouped world.listeners flags → IsKept (count + 1) (record world { listeners = listeners })
-  unfolding next
-  kept_init flags reply listeners is =
-      let are : listeners ≡ (grouped world.listeners flags).1 = ap (λ (r : Reply × List ListenerState). r.1) is in
-      let sound = sound_next world (steps.Init flags) kept.sound in
-      record {
-        listeners = rw are (bounded_group _ _ _ kept.listeners);
-        marks = kept.marks;
-        sound = rw are sound;
-      }
-
-  -- `mark`
-  pub kept_mark : (group flags mask : ℕ) (path : List ℕ) (reply : Reply) (marks : List Mark)
-      (retirement : RetirementState)
-      → (reply, marks, retirement) ≡ marked_with world.retirement
-      (marked world.listeners world.tree world.mounts world.marks world.last_access group flags mask path)
-      → IsMarkList marks → IsKept (count + 1) (record world { marks = marks; retirement = retirement })
-  unfolding next
-  kept_mark group flags mask path reply marks retirement is whole =
-      let all =
-      marked world.listeners world.tree world.mounts world.marks world.last_access group flags mask path in
-      let are : marks ≡ all.1 = ap (λ (r : Reply × List Mark × RetirementState). r.1) is in
-      let sound = sound_next world (steps.Mark group flags mask path) kept.sound in
-      record {
-        listeners = bounded_later count world.listeners kept.listeners;
-        marks = whole;
-        sound = record { marked_well = rw are sound.marked_well; accesses_few = kept.sound.accesses_few };
-      }
-
-  -- `begin`
-  pub kept_begin : (opening : Opening) (op : OpWord) (path : List ℕ) (reply : Reply) (marks : List Mark)
-      (retirement : RetirementState) (accesses : List AccessState) (last : ℕ)
-      → (reply, marks, retirement, accesses, last) ≡ begun_with world.retirement
-      (begun_by op world.tree world.mounts world.marks world.accesses world.last_access opening path)
-      → IsMarkList marks
-      → IsKept (count + 1) (record world {
-        marks = marks;
-        retirement = retirement;
-        accesses = accesses;
-        last_access = last;
-      })
-  unfolding next
-  kept_begin opening op path reply marks retirement accesses last is whole =
-      let all = begun_by op world.tree world.mounts world.marks world.accesses world.last_access opening path in
-      let marks_are : marks ≡ all.1.marks =
-      ap (λ (r : Reply × List Mark × RetirementState × List AccessState × ℕ). r.1) is in
-      let accesses_are : accesses ≡ all.1.accesses =
-      ap (λ (r : Reply × List Mark × RetirementState × List AccessState × ℕ). r.3) is in
-      let sound = sound_next world (steps.Begin opening.number opening.pid opening.tid op path None) kept.sound in
-      record {
-        listeners = bounded_later count world.listeners kept.listeners;
-        marks = whole;
-        sound = record {
-          marked_well = rw marks_are sound.marked_well;
-          accesses_few = rw accesses_are sound.accesses_few;
-        };
-      }
-
-  -- `step`; the greatest number that an access had is no part of what holds
-  pub kept_advance : (access last : ℕ) (reply : Reply) (listeners : List ListenerState) (accesses : List AccessState)
-      → (reply, listeners, accesses) ≡ advanced world.listeners world.accesses access
-      → IsKept (count + 1) (record world { listeners = listeners; accesses = accesses; last_access = last })
-  unfolding next
-  kept_advance access last reply listeners accesses is =
-      let all = advanced world.listeners world.accesses access in
-      let listeners_are : listeners ≡ all.1 = ap (λ (r : Reply × List ListenerState × List AccessState). r.1) is in
-      let accesses_are : accesses ≡ all.2 = ap (λ (r : Reply × List ListenerState × List AccessState). r.2) is in
-      let sound = sound_next world (steps.Advance access) kept.sound in
-      record {
-        listeners = rw listeners_are (bounded_advance _ _ _ _ kept.listeners);
-        marks = kept.marks;
-        sound = record {
-          marked_well = rw listeners_are sound.marked_well;
-          accesses_few = rw accesses_are sound.accesses_few;
-        };
-      }
-
-  -- `read`
-  pub kept_read : (group size : ℕ) (reply : Reply) (listeners : List ListenerState)
-      → (reply, listeners) ≡ read_from world.listeners group size → IsKept (count + 1) (record world { listeners = listeners })
-  unfolding next
-  kept_read group size reply listeners is =
-      let are : listeners ≡ (read_from world.listeners group size).1 = ap (λ (r : Reply × List ListenerState). r.1) is in
-      let sound = sound_next world (steps.Read group size) kept.sound in
-      record {
-        listeners = rw are (bounded_read _ _ _ _ kept.listeners);
-        marks = kept.marks;
-        sound = rw are sound;
-      }
-
-  -- `write`
-  pub kept_write : (group : ℕ) (bytes : List ℕ) (reply : Reply) (listeners : List ListenerState)
-      → (reply, listeners) ≡ written_to world.listeners group bytes → IsKept (count + 1) (record world { listeners = listeners })
-  unfolding next
-  kept_write group bytes reply listeners is =
-      let are : listeners ≡ (written_to world.listeners group bytes).1 = ap (λ (r : Reply × List ListenerState). r.1) is in
-      let sound = sound_next world (steps.Write group bytes) kept.sound in
-      record {
-        listeners = rw are (bounded_write _ _ _ _ kept.listeners);
-        marks = kept.marks;
-        sound = rw are sound;
-      }
-
-  -- `close`
-  pub kept_close : (group : ℕ) (reply : Reply) (listeners : List ListenerState) (marks : List Mark)
-      (retirement : RetirementState)
-      → (reply, listeners, marks, retirement) ≡ noted_with world.retirement
-      (closed_group world.listeners world.marks world.last_access group)
-      → IsMarkList marks
-      → IsKept (count + 1) (record world { listeners = listeners; marks = marks; retirement = retirement })
-  unfolding next
-  kept_close group reply listeners marks retirement is whole =
-      let all = closed_group world.listeners world.marks world.last_access group in
-      let listeners_are : listeners ≡ all.1 =
-      ap (λ (r : Reply × List ListenerState × List Mark × RetirementState). r.1) is in
-      let marks_are : marks ≡ all.2 =
-      ap (λ (r : Reply × List ListenerState × List Mark × RetirementState). r.2) is in
-      let sound = sound_next world (steps.Close group) kept.sound in
-      record {
-        listeners = rw listeners_are (bounded_close _ _ _ _ _ kept.listeners);
-        marks = whole;
-        sound = record {
-          marked_well = rw (listeners_are, marks_are) sound.marked_well;
-          accesses_few = kept.sound.accesses_few;
-        };
-      }
+  -- the same of a step that never changes the marks
+  pub kept_still : leaves_marks step ≡ true → IsKept (count + 1) after
+  kept_still leaves = kept_next (rw (after_is, marks_left world step leaves) kept.marks)

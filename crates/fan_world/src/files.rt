@@ -30,7 +30,8 @@ pub(crate) struct Files {
 impl Files {
     /// A filesystem with its root, mounted at `/`.
     pub(crate) fn new(alloc: Global) -> Result<Files, NoMemory>
-        ensures { IfOk result (λ files. files ≡ record { tree = opening_tree; mounts = opening_mounts }) }
+        ensures tree { IfOk result (λ files. files.tree ≡ opening_tree) }
+        ensures mounts { IfOk result (λ files. files.mounts ≡ opening_mounts) }
     {
         Ok(Files {
             tree: Tree::new(alloc)?,

@@ -11,6 +11,7 @@ mod groups;
 mod interests;
 mod laws;
 mod listeners;
+mod machine;
 mod marks;
 mod open_accesses;
 mod reclaim_law;

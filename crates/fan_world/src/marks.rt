@@ -35,6 +35,15 @@ pub(crate) struct MarkLine {
     pub(crate) mask: u64,
 }
 
+impl MarkLine {
+    /// The words of a line.
+    pub(crate) fn new(group: u32, flags: u32, mask: u64) -> MarkLine
+        ensures { result ≡ record { group = group; flags = flags; mask = mask } }
+    {
+        MarkLine { group, flags, mask }
+    }
+}
+
 impl Marks {
     /// No marks, and none that were retired.
     pub(crate) fn new(alloc: Global) -> Result<Marks, NoMemory>
