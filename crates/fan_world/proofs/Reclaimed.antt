@@ -36,7 +36,7 @@ use Rattle.fan_world.specs.declared.access.Opening.{Opening}
 use Rattle.fan_world.specs.declared.batches.Retired.{Retired}
 use Rattle.fan_world.specs.Accesses.{AccessState}
 use Rattle.fan_world.specs.Batches.{BatchState, RetirementState, count_retired, graced, held_batch, is_held, noted, pending, pending_in, reclaimed_of, retired_by, started, with_retired}
-use Rattle.fan_world.specs.Marking.{change_reply, is_flush, marked, marked_for, open_listener, put_at as put_mark_at, put_on_place}
+use Rattle.fan_world.specs.Marking.{change_reply, is_flush, marked, marked_for, open_listener, put_mark_at, put_on_place}
 use Rattle.fan_world.specs.ReclaimLaw.{gone, reclaimed_in, reclaims, retired_in, retirements}
 use Rattle.fan_world.specs.Run.{after_steps}
 use Rattle.fan_world.specs.Tree.{goes_through, umount_reply, unmounted_at, unmounted_on}

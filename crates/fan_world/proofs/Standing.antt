@@ -32,7 +32,7 @@ use Rattle.fan_world.specs.declared.batches.Retired.{Retired}
 use Rattle.fan_world.specs.Accesses.{AccessState, listener_at}
 use Rattle.fan_world.specs.Asks.{marks_seen}
 use Rattle.fan_world.specs.Batches.{retired_by}
-use Rattle.fan_world.specs.Marking.{change_reply, if_open, is_flush, marked_by, marked_for, open_listener, put_at as put_mark_at, put_on_place}
+use Rattle.fan_world.specs.Marking.{change_reply, if_open, is_flush, marked_by, marked_for, open_listener, put_mark_at, put_on_place}
 use Rattle.fan_world.specs.Sound.{opened, opens, IsOpenAs, Stands}
 use Rattle.fan_world.specs.Tree.{goes_through, umount_reply, unmounted_on}
 use Rattle.fan_world.proofs.Asked.{same_class}

@@ -48,8 +48,8 @@ change_reply None marks change last = (replies.Done, changed marks change, retir
 
 -- bits are put on the mark of a group on an object or taken from it: ENOENT where there is none to take
 -- from, ENOSPC where a new one is one too many
-abbrev pub put_at : List Mark → ListenerState → ℕ → MarkWords → ℕ → ℕ → Reply × List Mark × List Retired
-put_at marks listener group words object last =
+abbrev pub put_mark_at : List Mark → ListenerState → ℕ → MarkWords → ℕ → ℕ → Reply × List Mark × List Retired
+put_mark_at marks listener group words object last =
     let change = Put group (class_of listener.flags) words object in
     change_reply (refusal_of marks change (occurs listener.flags unlimited_marks)) marks change last
 
@@ -58,7 +58,7 @@ abbrev pub put_on_place : Result Place Errno → List Mark → ListenerState →
 put_on_place (Err refusal) marks listener group words last = (replies.Refused refusal, marks, [])
 put_on_place (Ok place) marks listener group words last =
     if words.only_dir && not place.dir then (replies.Refused errno.Enotdir, marks, [])
-    else put_at marks listener group words (object_of words.kind place) last
+    else put_mark_at marks listener group words (object_of words.kind place) last
 
 -- FAN_MARK_FLUSH
 abbrev pub is_flush : Verb → Bool

@@ -6,7 +6,7 @@ ghost use Rattle.fan_bits.specs.Places.{IsObject, IsPlace};
 ghost use Rattle.fan_listener.specs.ListenerState.{ListenerState};
 ghost use Rattle.fan_marks.specs.Book.{lacks_mark, makes_mark};
 ghost use Rattle.fan_world.specs.Batches.{noted, nothing_retired};
-ghost use Rattle.fan_world.specs.Marking.{mark_errno, marked, put_at, put_on_place};
+ghost use Rattle.fan_world.specs.Marking.{mark_errno, marked, put_mark_at, put_on_place};
 ghost use Rattle.fan_world.specs.Retiring.{marked_with};
 ghost use Rattle.fan_world.specs.Sound.{IsOpenAs, Stands, opens};
 
@@ -98,7 +98,7 @@ fn put(
         book.old.marks }
     ensures ok { IfOk result (λ done. (last : ℕ) →
         (done.reply, book.new.marks, noted done.retired last)
-        ≡ put_at book.old.marks listener.now group words object last) }
+        ≡ put_mark_at book.old.marks listener.now group words object last) }
     ensures whole { IsMarkList book.new.marks }
     ensures err { OnErr result (book.new.marks ≡ book.old.marks) }
 {

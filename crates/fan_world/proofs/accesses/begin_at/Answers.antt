@@ -1,4 +1,4 @@
-use Rattle.std.proofs.Common.{◌≡◌, ◌∙◌, ◌∷◌, ◌++◌, [], sym, ap}
+use Rattle.std.proofs.Common.{◌∙◌, ◌∷◌, ◌++◌, [], sym, ap}
 use Rattle.fan_world.specs.Accesses.{AccessState}
 use Rattle.fan_world.specs.Opened.{OpenState}
 use Rattle.fan_world.proofs.Steps.{changed_last, found_last}

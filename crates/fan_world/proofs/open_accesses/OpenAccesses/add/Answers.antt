@@ -1,4 +1,4 @@
-use Rattle.std.proofs.Common.{◌≡◌, ◌<◌, List, ap}
+use Rattle.std.proofs.Common.{◌<◌, List, ap}
 use Rattle.fan_world.specs.Accesses.{AccessState}
 use Rattle.fan_world.specs.Opened.{OpenState}
 use Rattle.fan_world.proofs.Counted.{filed_more}

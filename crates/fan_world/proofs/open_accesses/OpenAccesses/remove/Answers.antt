@@ -1,7 +1,4 @@
-use Rattle.std.proofs.Common.{◌≡◌, List, Some, sym, ap}
-use Rattle.std.specs.BTreeMap.{is_at}
-use Rattle.std.specs.Map.{lookup}
-use Rattle.std.specs.Ordering.{nat_cmp}
+use Rattle.std.proofs.Common.{List, sym, ap}
 use Rattle.fan_world.specs.Accesses.{AccessState}
 use Rattle.fan_world.specs.Opened.{OpenState}
 use Rattle.fan_world.proofs.Counted.{filed_less, is_counted}
