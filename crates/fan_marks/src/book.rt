@@ -104,8 +104,10 @@ impl MarkBook {
     }
 
     /// Makes room for a new mark, so that the next change finds it whatever memory is left then.
+    /// It wants memory only where there is no room yet.
     pub fn reserve(&mut self) -> Result<(), NoMemory>
         ensures room { OnOk result (1 ≤ self.new.spare) }
+        ensures full { OnErr result (self.old.spare ≡ 0) }
         ensures same { self.new.marks ≡ self.old.marks }
     {
         self.marks.reserve()
