@@ -1,6 +1,7 @@
 -- What a begin does: it is refused and changes nothing, or an access begins where its path leads.
 use Rattle.std.proofs.Common.{◌≡◌, ℕ, ◌<◌, ltb, List, Option, Some, None, Result, Ok, Err, refl}
 use Rattle.std.proofs.lemmas.Bool.{ltb-true}
+use Rattle.std.specs.Prelude.{is_some}
 use Rattle.fan_bits.specs.declared.errno.Errno.{Errno}
 use Rattle.fan_bits.specs.declared.errno.Errno.TheVariants as errno
 use Rattle.fan_bits.specs.declared.mark.Mark.{Mark}
@@ -8,7 +9,9 @@ use Rattle.fan_bits.specs.declared.place.Place.{Place}
 use Rattle.fan_mounts.specs.declared.mount.Mount.{Mount}
 use Rattle.fan_mounts.specs.Reaches.{place_of}
 use Rattle.fan_script.specs.declared.reply.Reply.{Reply}
+use Rattle.fan_script.specs.Built.{is_built_op}
 use Rattle.fan_script.specs.declared.step.OpWord.{OpWord}
+use Rattle.fan_script.specs.declared.step.OpWord.TheVariants as ops
 use Rattle.fan_tree.specs.Tree.{TreeState}
 use Rattle.fan_world.specs.declared.access.Deed.{Deed}
 use Rattle.fan_world.specs.declared.access.Opening.{Opening}
@@ -51,3 +54,18 @@ pub begun_cases : (P : Reply × Begun → Type 0) (op : OpWord) (tree : TreeStat
 unfolding begun_by
 begun_cases P op tree mounts marks accesses last opening path refused reached =
     begun_deed P (deed_of op) tree mounts marks accesses last opening path refused reached
+
+-- the machine knows what an operation does exactly where a line of it is built
+pub known_built : (op : OpWord) → is_some (deed_of op) ≡ is_built_op op
+known_built ops.Opens = refl
+known_built ops.Execs = refl
+known_built ops.Reads = refl
+known_built ops.Writes = refl
+known_built ops.ClosesWrite = refl
+known_built ops.ClosesRead = refl
+known_built ops.Attribs = refl
+known_built ops.Creates = refl
+known_built ops.MakesDir = refl
+known_built ops.Unlinks = refl
+known_built ops.RemovesDir = refl
+known_built ops.Renames = refl

@@ -1,7 +1,8 @@
 // Laws of the machine, which hold whatever steps came before. The bodies are empty.
-ghost use Rattle.std.specs.Prelude.{◌≡◌, ◌≤◌, ◌↔◌, ℕ, List, [], ◌∷◌, Option, Some, true, find};
+ghost use Rattle.std.specs.Prelude.{◌≡◌, ◌≤◌, ◌↔◌, ℕ, List, [], ◌∷◌, Option, Some, true, find, is_some};
 ghost use Rattle.fan_bits.specs.declared.place.Place.{Place};
 ghost use Rattle.fan_mounts.specs.Reaches.{Reaches};
+ghost use Rattle.fan_script.specs.Built.{is_built_op};
 ghost use Rattle.fan_script.specs.declared.reply.StepOutcome.{StepOutcome};
 ghost use Rattle.fan_script.specs.declared.step.OpWord.{OpWord};
 ghost use Rattle.fan_script.specs.declared.step.Step.{Step};
@@ -43,4 +44,9 @@ pub fn outcomes_have_causes()
         find (has_number number) world.accesses ≡ Some access →
         ((next world (Step.Advance number)).0 ≡ Reply.Out (outcome ∷ []))
         ↔ IsDueTo world.listeners access outcome }
+{}
+
+/// The machine knows what an operation does exactly where a `begin` of it is built.
+pub fn known_operations_are_built()
+    ensures { (op : OpWord) → is_some (deed_of op) ≡ is_built_op op }
 {}

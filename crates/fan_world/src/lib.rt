@@ -23,7 +23,10 @@ mod world;
 
 pub use access::{Access, Deed, Opening, WaitingFor};
 pub use batches::Retired;
-pub use laws::{accesses_ask_then_tell, finished_accesses_stay_so, outcomes_have_causes};
+pub use laws::{
+    accesses_ask_then_tell, finished_accesses_stay_so, known_operations_are_built,
+    outcomes_have_causes,
+};
 pub use reclaim_law::marks_are_reclaimed_once;
 pub use run_law::every_run_ends;
 pub use world::World;
