@@ -122,7 +122,7 @@ fn groups_to_ask(room: Vec<u32>, marks: &mut MarkBook, deed: Deed, place: Place)
 
 impl Access {
     /// An access of a place that begins now, with the marks as they stand. Its lists have room for the
-    /// groups to ask and to tell, so it takes no memory.
+    /// groups to ask and to tell, so it takes no memory; what room is left over is given back.
     pub(crate) fn begin(
         room_to_ask: Vec<u32>,
         room_to_tell: Vec<u32>,
@@ -141,8 +141,10 @@ impl Access {
         ensures access { result ≡ beginning opening deed place marks.old.marks }
         ensures marks { marks.new.marks ≡ marks.old.marks }
     {
-        let to_ask = groups_to_ask(room_to_ask, marks, deed, place);
-        let to_tell = groups_wanting(room_to_tell, marks, place, deed.told_bit());
+        let mut to_ask = groups_to_ask(room_to_ask, marks, deed, place);
+        let mut to_tell = groups_wanting(room_to_tell, marks, place, deed.told_bit());
+        to_ask.shrink_to_fit();
+        to_tell.shrink_to_fit();
         Access {
             opening,
             deed,
