@@ -1,6 +1,6 @@
 -- Where a test turns in a list that a mark parts in two.
-use Rattle.std.proofs.Common.{◌≡◌, ◌∙◌, ◌+◌, ◌<◌, ◌≤◌, List, [], ◌∷◌, ◌++◌, Bool, true, false, get_or, length, sym, refl, arith, suc}
-use Rattle.std.specs.Prelude.{All, filter}
+use Rattle.std.proofs.Common.{◌≡◌, ◌∙◌, ◌+◌, ◌<◌, ◌≤◌, ℕ, zero, List, [], ◌∷◌, ◌++◌, Bool, true, false, get_or, length, Some, sym, refl, ap, arith, suc}
+use Rattle.std.specs.Prelude.{All, filter, slice_get, unwrap_or}
 use Rattle.std.specs.List.Sorted.{IsPartitionedBy}
 use Rattle.std.proofs.Math.ListN.{get_or-append}
 use Rattle.std.proofs.lemmas.List.{get_or-append-add, length-append}
@@ -71,3 +71,35 @@ count_before p l m r parted fails =
 -- a filter keeps no more than there are
 pub filter_shorter : (p : Mark → Bool) (marks : List Mark) → length (filter p marks) ≤ length marks
 filter_shorter p marks = omega (arith, length-filter p marks, count_by-le-length p marks)
+
+-- what stands behind a mark of a list stands in the part behind it
+get_behind : (l : List Mark) (m : Mark) (r : List Mark) (n : ℕ)
+    → slice_get (l ++ m ∷ r) (length l + 1 + n) ≡ slice_get r n
+get_behind [] m r n =
+    let next : 0 + 1 + n ≡ suc n = omega arith in
+    ap (slice_get (m ∷ r)) next
+get_behind (x ∷ xs) m r n =
+    let next : suc (length xs) + 1 + n ≡ suc (length xs + 1 + n) = omega arith in
+    ap (slice_get (x ∷ xs ++ m ∷ r)) next ∙ get_behind xs m r n
+
+-- what stands up to a mark stands in the part before it, or is the mark
+get_before : (l : List Mark) (m : Mark) (r : List Mark) (n : ℕ) → n ≤ length l
+    → slice_get (l ++ m ∷ r) n ≡ Some (unwrap_or (slice_get l n) m)
+get_before [] m r zero most = refl
+get_before [] m r (suc n) most = absurd (omega (arith, most))
+get_before (x ∷ xs) m r zero most = refl
+get_before (x ∷ xs) m r (suc n) most = get_before xs m r n (omega (arith, most))
+
+-- where the mark passes, the first that fails is the first of those behind it
+pub first_right : (p : Mark → Bool) (l : List Mark) (m : Mark) (r : List Mark)
+    → IsPartitionedBy p (l ++ m ∷ r) → p m ≡ true
+    → slice_get (l ++ m ∷ r) (length (filter p (l ++ m ∷ r))) ≡ slice_get r (length (filter p r))
+first_right p l m r parted is = rw (count_behind p l m r parted is) (get_behind l m r (length (filter p r)))
+
+-- where it fails, the first that fails is the first of those before it, or else the mark
+pub first_left : (p : Mark → Bool) (l : List Mark) (m : Mark) (r : List Mark)
+    → IsPartitionedBy p (l ++ m ∷ r) → p m ≡ false
+    → slice_get (l ++ m ∷ r) (length (filter p (l ++ m ∷ r)))
+    ≡ Some (unwrap_or (slice_get l (length (filter p l))) m)
+first_left p l m r parted fails =
+    rw (count_before p l m r parted fails) (get_before l m r (length (filter p l)) (filter_shorter p l))

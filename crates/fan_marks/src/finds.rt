@@ -35,8 +35,11 @@ fn mark_at(places: &Index, object: u32, order: Order) -> Option<Mark>
     requires { Rises places.now.marks }
     ensures { result ≡ find (is_at object order.0) places.now.marks }
 {
-    let at = find_place(places, object, order);
-    there(places.get(at), object, order)
+    there(
+        places.first_behind(Cut::Before { object, order }),
+        object,
+        order,
+    )
 }
 
 // A mark where it stands at a place.
@@ -62,11 +65,11 @@ pub(crate) fn next_mark(places: &Index, object: u32, after: Order) -> Option<Mar
     requires { Rises places.now.marks }
     ensures { result ≡ next_on places.now.marks object after.0 }
 {
-    let at = places.count_within(Cut::Behind {
+    let behind = Cut::Behind {
         object,
         order: after,
-    });
-    if_on(places.get(at), object)
+    };
+    if_on(places.first_behind(behind), object)
 }
 
 // A mark where it is on an object.

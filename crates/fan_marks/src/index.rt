@@ -50,11 +50,13 @@ impl Index {
         }
     }
 
-    /// The mark with an index, if there is one.
-    pub(crate) fn get(&self, at: usize) -> Option<Mark>
-        ensures { result ≡ slice_get self.now.marks at }
+    /// The first mark behind a cut, if there is one.
+    pub(crate) fn first_behind(&self, cut: Cut) -> Option<Mark>
+        requires { IsPartitionedBy (is_within cut) self.now.marks }
+        ensures { result ≡
+            slice_get self.now.marks (length (filter (is_within cut) self.now.marks)) }
     {
-        self.tree.get(at)
+        self.tree.first_behind(cut).copied()
     }
 
     /// How many marks a cut has before it.

@@ -1,6 +1,7 @@
 // A tree of marks, seen as its marks in order. A node knows how many marks are below it.
 ghost use Rattle.std.specs.Prelude.{◌≡◌, ◌+◌, ◌<◌, ◌^◌, [], ◌∷◌, ◌++◌, filter, length, slice_get};
 ghost use Rattle.std.specs.List.Sorted.{IsPartitionedBy};
+ghost use Rattle.std.specs.Option.{option_copied};
 ghost use Rattle.fan_marks.specs.Cuts.{is_within};
 ghost use Rattle.fan_marks.specs.Parts.{IsTaken};
 
@@ -136,21 +137,22 @@ impl Tree {
         }
     }
 
-    /// The mark with an index, if there is one.
-    pub(crate) fn get(&self, at: usize) -> Option<Mark>
-        ensures { result ≡ slice_get self.now at }
+    /// The first mark behind a cut, if there is one.
+    pub(crate) fn first_behind(&self, cut: Cut) -> Option<&Mark>
+        requires { IsPartitionedBy (is_within cut) self.now }
+        ensures { option_copied result ≡
+            slice_get self.now (length (filter (is_within cut) self.now)) }
     {
         match &self.root {
             None => None,
             Some(node) => {
-                let here = node.left.len();
-                if at < here {
-                    return node.left.get(at);
+                if cut.is_within(node.mark) {
+                    return node.right.first_behind(cut);
                 }
-                if at == here {
-                    return Some(node.mark);
+                match node.left.first_behind(cut) {
+                    Some(mark) => Some(mark),
+                    None => Some(&node.mark),
                 }
-                node.right.get(at - here - 1)
             }
         }
     }

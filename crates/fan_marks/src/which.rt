@@ -38,8 +38,7 @@ pub(crate) fn first_behind(index: &Index, cut: Cut, which: Which) -> Option<Mark
     ensures { result ≡ kept_if (is_one which)
         (slice_get index.now.marks (length (filter (is_within cut) index.now.marks))) }
 {
-    let at = index.count_within(cut);
-    match index.get(at) {
+    match index.first_behind(cut) {
         Some(mark) if which.is_one(mark) => Some(mark),
         _ => None,
     }
