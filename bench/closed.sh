@@ -1,5 +1,5 @@
 #!/usr/bin/env bash
-# Answers a script of 4 MiB: groups that are made and closed by turns, some 210,000 in all.
+# Answers a script of 4 MiB: groups that are made and closed by turns, some 215,000 in all.
 source "$(dirname -- "${BASH_SOURCE[0]}")/measure.sh"
 
 script() {
