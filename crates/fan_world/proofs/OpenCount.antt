@@ -18,7 +18,8 @@ use Rattle.fan_world.proofs.Opens.{count_by-opens, opens-set, opened-put, opened
 module _ (listeners : List ListenerState) (place : ℕ) (old new : ListenerState)
     (here : slice_get listeners place ≡ Some old) where
   -- a listener that stays open, or closed, leaves as many open
-  pub open_same : opened new ≡ opened old → count_by is_open (set listeners place new) ≡ count_by is_open listeners
+  pub open_same : opened new ≡ opened old
+      → count_by is_open (set listeners place new) ≡ count_by is_open listeners
   open_same same =
       sym (count_by-opens (set listeners place new))
       ∙ ap (λ os. count_by is_some os) (opens-set listeners place old new here same)

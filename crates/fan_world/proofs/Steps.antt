@@ -35,7 +35,8 @@ pub read_refused : (place size : ℕ) (listeners : List ListenerState) (listener
     → (replies.Refused name, slice_set listeners place after)
     ≡ read_at (slice_get listeners place) listeners (place + 1) size
 read_refused place size listeners listener after why name here same refused is = rw (here, refused, same, is)
-    (ap (λ (ls : List ListenerState). (replies.Refused (read_errno why), ls)) (set_same listeners place listener here))
+    (ap (λ (ls : List ListenerState). (replies.Refused (read_errno why), ls))
+    (set_same listeners place listener here))
 
 -- a response that is refused writes the listener back as it was
 pub write_refused : (place : ℕ) (bytes : List ℕ) (listeners : List ListenerState)
@@ -45,7 +46,8 @@ pub write_refused : (place : ℕ) (bytes : List ℕ) (listeners : List ListenerS
     → (replies.Refused name, slice_set listeners place after)
     ≡ written_at (slice_get listeners place) listeners (place + 1) bytes
 write_refused place bytes listeners listener after why name here same refused is = rw (here, refused, same, is)
-    (ap (λ (ls : List ListenerState). (replies.Refused (write_errno why), ls)) (set_same listeners place listener here))
+    (ap (λ (ls : List ListenerState). (replies.Refused (write_errno why), ls))
+    (set_same listeners place listener here))
 
 -- what takes the place of the first that passes, and passes, is then the first that passes
 without_changed : {X : Type 0} (test : X → Bool) (new : X) (xs : List X) → test new ≡ true

@@ -61,8 +61,8 @@ impl Groups {
         }
     }
 
-    /// Makes a group, whose number is the count of groups then. EINVAL for its flags, EMFILE where 128
-    /// are open.
+    /// Makes a group, whose number is the count of groups then. EINVAL for its flags, EMFILE where
+    /// 128 are open.
     #[tactic(auto, unfolding(crate::specs::World::grouped))]
     pub(crate) fn make(&mut self, flags: u32) -> Result<Reply, NoMemory>
         requires { length self.old < 2 ^ 30 }
@@ -144,7 +144,8 @@ impl Groups {
         }
     }
 
-    /// The answer of a group for one of its entries, which is taken where there is one. Takes no memory.
+    /// The answer of a group for one of its entries, which is taken where there is one. Takes no
+    /// memory.
     #[tactic(auto, unfolding(crate::specs::Accesses::answer_from))]
     pub(crate) fn answer_of(&mut self, group: u32, entry: u64) -> Answer
         ensures { (result, self.new) ≡ answer_from self.old group entry }
