@@ -15,12 +15,15 @@ use Rattle.fan_world.specs.Opened.{AreFiled, HasOneMore, HasSame, IsAtNumber, co
 use Rattle.fan_world.specs.Tree.{goes_through}
 use Rattle.fan_world.proofs.Filed.{All-remove_entry, Entries, at_set, found_number, used_later, values_more}
 
-one_more : (here rest : Bool) (count : ℕ) → nat_lt 0 count ≡ rest → nat_lt 0 (cond here 1 0 + count) ≡ (here || rest)
+-- one more that may pass
+one_more : (here rest : Bool) (count : ℕ) → nat_lt 0 count ≡ rest
+    → nat_lt 0 (cond here 1 0 + count) ≡ (here || rest)
 one_more true rest count is = grind (arith, nat_tests)
 one_more false rest count is = grind (arith, nat_tests)
 
 -- an element passes just where some are counted
-pub some_counted : {X : Type 0} (test : X → Bool) (xs : List X) → nat_lt 0 (count_by test xs) ≡ list_any test xs
+pub some_counted : {X : Type 0} (test : X → Bool) (xs : List X)
+    → nat_lt 0 (count_by test xs) ≡ list_any test xs
 some_counted test [] = refl
 some_counted test (x ∷ xs) =
     rw (sum_by-cons (λ one. cond (test one) 1 0) x xs)
@@ -62,13 +65,15 @@ filed_more entries before after last access is above more = record {
       (record { own = refl; used = omega arith });
   counted = λ mount.
       more mount ∙ ap (λ count. count + cond (goes_through mount access) 1 0) (is.counted mount)
-      ∙ sym (rw (values_more entries access.number access) (sum_by_push (λ one. cond (goes_through mount one) 1 0) (values_of entries) access));
+      ∙ sym (rw (values_more entries access.number access)
+      (sum_by_push (λ one. cond (goes_through mount one) 1 0) (values_of entries) access));
 }
 
 module _ (entries : Entries) (last number : ℕ) (access : AccessState)
     (found : lookup (is_at (nat_cmp number)) entries ≡ Some access) where
   -- the counts without the access that is found
-  left : (mount : ℕ) → count_by (goes_through mount) (values_of (remove_entry (is_at (nat_cmp number)) entries))
+  left : (mount : ℕ)
+      → count_by (goes_through mount) (values_of (remove_entry (is_at (nat_cmp number)) entries))
       + cond (goes_through mount access) 1 0 ≡ count_by (goes_through mount) (values_of entries)
   left mount =
       rw found at
@@ -104,9 +109,11 @@ module _ (entries : Entries) (last number : ℕ) (access : AccessState)
     each = at_set last number new entries own is.each;
     counted = λ mount.
         let counted = is.counted mount in
-        let sums = sum_by-set_value (λ one. cond (goes_through mount one) 1 0) (is_at (nat_cmp number)) entries
+        let sums =
+        sum_by-set_value (λ one. cond (goes_through mount one) 1 0) (is_at (nat_cmp number)) entries
         access new found in
-        let same : cond {A = ℕ} (goes_through mount new) 1 0 ≡ cond (goes_through mount access) 1 0 = rw here refl in
+        let same : cond {A = ℕ} (goes_through mount new) 1 0 ≡ cond (goes_through mount access) 1 0 =
+        rw here refl in
         omega (arith, counted, sums, same);
   }
 
@@ -116,7 +123,8 @@ module _ (entries written : Entries) (last number : ℕ) (old new : AccessState)
   -- another access of the same number and place is written at a number
   pub filed_written : (through : BTreeMap ℕ ℕ) → AreFiled entries through last → new.number ≡ number
       → new.place ≡ old.place → AreFiled written through last
-  filed_written through filed own here = rw is (filed_set entries last number old found through new filed own here)
+  filed_written through filed own here =
+      rw is (filed_set entries last number old found through new filed own here)
 
   -- an access that keeps its number and its place is written back
   pub filed_stepped : (through : BTreeMap ℕ ℕ) → AreFiled entries through last → new.number ≡ old.number

@@ -51,7 +51,8 @@ module _ (last : ℕ) where
       values_of (cond here more (entry ∷ remove_entry (is_at (nat_cmp number)) more))
       ≡ cond here (values_of more) (entry.1 ∷ without_first (has_number number) (values_of more))) [
         | true ↦ refl
-        | false ↦ ap (λ rest. entry.1 ∷ rest) (removes number more (All-tail (IsAtNumber last) entry more each))
+        | false ↦ ap (λ rest. entry.1 ∷ rest)
+            (removes number more (All-tail (IsAtNumber last) entry more each))
       ])
 
   -- what is put at a number takes the place of the first access that has it
@@ -62,7 +63,8 @@ module _ (last : ℕ) where
   sets number access (entry ∷ more) each =
       rw (head_test number entry more each)
       (elim (has_number number entry.1) as (λ here.
-      values_of (cond here ((entry.0, access) ∷ more) (entry ∷ set_value (is_at (nat_cmp number)) more access))
+      values_of (cond here ((entry.0, access) ∷ more)
+      (entry ∷ set_value (is_at (nat_cmp number)) more access))
       ≡ cond here (access ∷ values_of more)
       (entry.1 ∷ change_first (has_number number) (λ old. access) (values_of more))) [
         | true ↦ refl
@@ -80,7 +82,8 @@ module _ (last : ℕ) where
       let below : nat_lt number entry.0 ≡ false = grind (arith, nat_tests) in
       let other : (number == entry.0) ≡ false = grind (arith, nat_tests) in
       rw (below, other)
-      (ap (λ rest. entry ∷ rest) (comes_last number access more above (All-tail (IsAtNumber last) entry more each)))
+      (ap (λ rest. entry ∷ rest)
+      (comes_last number access more above (All-tail (IsAtNumber last) entry more each)))
 
   -- and none has its number yet
   pub finds_none : (number : ℕ) (entries : Entries) → last < number → All (IsAtNumber last) entries
@@ -142,14 +145,17 @@ used_later before after entries later each =
 -- the accesses with one more behind the others
 pub values_more : (entries : Entries) (number : ℕ) (access : AccessState)
     → values_of (entries ++ (number, access) ∷ []) ≡ values_of entries ++ access ∷ []
-values_more entries number access = map-append (λ (entry : ℕ × AccessState). entry.1) entries ((number, access) ∷ [])
+values_more entries number access =
+    map-append (λ (entry : ℕ × AccessState). entry.1) entries ((number, access) ∷ [])
 
 -- an access that is found at a number has it
-pub found_number : (last number : ℕ) (access : AccessState) (entries : Entries) → All (IsAtNumber last) entries
-    → lookup (is_at (nat_cmp number)) entries ≡ Some access → access.number ≡ number
+pub found_number : (last number : ℕ) (access : AccessState) (entries : Entries)
+    → All (IsAtNumber last) entries → lookup (is_at (nat_cmp number)) entries ≡ Some access
+    → access.number ≡ number
 found_number last number access entries each found =
     eqb-true access.number number
-    (find_passes (has_number number) (values_of entries) access (sym (finds last number entries each) ∙ found))
+    (find_passes (has_number number) (values_of entries) access
+    (sym (finds last number entries each) ∙ found))
 
 -- an access that is put at its number stands there
 pub at_set : (last number : ℕ) (access : AccessState) (entries : Entries) → access.number ≡ number

@@ -33,7 +33,8 @@ bounded_next count world (steps.Mount fs path) bounded = bounded_later count wor
 bounded_next count world (steps.Umount path) bounded = bounded_later count world.listeners bounded
 bounded_next count world (steps.Limit entries) bounded = bounded_later count world.listeners bounded
 bounded_next count world (steps.Init flags) bounded = bounded_group _ _ _ bounded
-bounded_next count world (steps.Mark group flags mask path) bounded = bounded_later count world.listeners bounded
+bounded_next count world (steps.Mark group flags mask path) bounded =
+    bounded_later count world.listeners bounded
 bounded_next count world (steps.Begin access pid tid op path second) bounded =
     bounded_later count world.listeners bounded
 bounded_next count world (steps.Advance access) bounded = bounded_advance _ _ _ _ bounded
@@ -43,7 +44,8 @@ bounded_next count world (steps.Close group) bounded = bounded_close _ _ _ _ _ b
 bounded_next count world steps.Grace bounded = bounded_later count world.listeners bounded
 
 -- `limit` changes nothing
-pub limit_is : (world : WorldState) (entries : ℕ) → (replies.Refused errno.Einval, world) ≡ next world (steps.Limit entries)
+pub limit_is : (world : WorldState) (entries : ℕ)
+    → (replies.Refused errno.Einval, world) ≡ next world (steps.Limit entries)
 unfolding next
 limit_is world entries = refl
 
@@ -64,7 +66,8 @@ leaves_marks (steps.Write group bytes) = true
 leaves_marks (steps.Close group) = false
 leaves_marks steps.Grace = true
 
-marks_left : (world : WorldState) (step : Step) → leaves_marks step ≡ true → (next world step).1.marks ≡ world.marks
+marks_left : (world : WorldState) (step : Step) → leaves_marks step ≡ true
+    → (next world step).1.marks ≡ world.marks
 unfolding next
 marks_left world (steps.MkFile path) leaves = refl
 marks_left world (steps.MkDir path) leaves = refl

@@ -22,7 +22,8 @@ use Rattle.fan_world.specs.World.{advanced, after_step, read_at, read_errno, wri
 use Rattle.fan_world.proofs.Filed.{Entries, finds, found_number, sets}
 
 -- what is at a place, written back, changes nothing
-pub set_same : {A : Type 0} (xs : List A) (place : ℕ) (x : A) → slice_get xs place ≡ Some x → set xs place x ≡ xs
+pub set_same : {A : Type 0} (xs : List A) (place : ℕ) (x : A) → slice_get xs place ≡ Some x
+    → set xs place x ≡ xs
 set_same [] place x here = refl
 set_same (y ∷ ys) zero x here = let same : y ≡ x = cc in ap (λ z. z ∷ ys) (sym same)
 set_same (y ∷ ys) (suc place) x here = ap (λ zs. y ∷ zs) (set_same ys place x here)
@@ -45,7 +46,8 @@ pub write_refused : (place : ℕ) (bytes : List ℕ) (listeners : List ListenerS
     → name ≡ write_errno why
     → (replies.Refused name, slice_set listeners place after)
     ≡ written_at (slice_get listeners place) listeners (place + 1) bytes
-write_refused place bytes listeners listener after why name here same refused is = rw (here, refused, same, is)
+write_refused place bytes listeners listener after why name here same refused is =
+    rw (here, refused, same, is)
     (ap (λ (ls : List ListenerState). (replies.Refused (write_errno why), ls))
     (set_same listeners place listener here))
 
@@ -117,7 +119,8 @@ pub steps_at : (finished : Bool) (last number : ℕ) (entries written : Entries)
     → kept_access outcome new ≡ cond finished None (Some new)
     → left ≡ cond finished (without_first (has_number number) (values_of written)) (values_of written)
     → (replies.Out (outcome ∷ []), after, left) ≡ advanced listeners (values_of entries) number
-steps_at finished last number entries written access new left listeners after outcome each found is same step kept leaves =
+steps_at finished last number entries written access new left listeners after outcome each found is same step
+    kept leaves =
     let values : values_of written ≡ change_first (has_number number) (λ old. new) (values_of entries) =
     ap values_of is ∙ sets last number new entries each in
     advances finished number access new (values_of entries) left listeners after outcome
@@ -127,7 +130,8 @@ steps_at finished last number entries written access new left listeners after ou
 -- and where none was found there
 pub steps_none : (last number : ℕ) (entries : Entries) (listeners : List ListenerState)
     → All (IsAtNumber last) entries → lookup (is_at (nat_cmp number)) entries ≡ None
-    → (replies.Refused errno.Esrch, listeners, values_of entries) ≡ advanced listeners (values_of entries) number
+    → (replies.Refused errno.Esrch, listeners, values_of entries)
+    ≡ advanced listeners (values_of entries) number
 steps_none last number entries listeners each none =
     advances_none number (values_of entries) listeners (sym (finds last number entries each) ∙ none)
 

@@ -145,8 +145,7 @@ fn begin_deed(
 }
 
 // Begins an access of a place, and gives how many marks that retires. All memory is taken first, since
-// an ignored set that was emptied can't be filled again: so a blank access holds the place of the one
-// that goes by the marks after that.
+// an ignored set that was emptied can't be filled again: a blank access stands at the number until then.
 fn begin_at(
     alloc: Global,
     marks: &mut MarkBook,

@@ -125,9 +125,8 @@ impl OpenAccesses {
         }
     }
 
-    /// Does the next single step of the access with a number and gives its outcome, or None where no
-    /// such access is open. One that is finished by it is taken out.
-    #[tactic(auto, unfolding(crate::specs::World::advanced))]
+    /// Does the next single step of the access with a number, and gives its outcome; None where no such
+    /// access is open. One that it finishes is taken out.
     pub(crate) fn step(
         &mut self,
         groups: &mut Groups,

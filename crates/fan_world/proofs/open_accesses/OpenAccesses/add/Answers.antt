@@ -23,8 +23,8 @@ invariant_of-self-2 c =
       c.in_default.ensures.ok,
       comes_last c.self.inside.last c.args.access.number c.args.access entries above c.self.invariant.each,
     )
-    (filed_more entries c.self.inside.through c.add.new.counts c.self.inside.last c.args.access c.self.invariant
-    above (rw c.mount-mount.ensures at c.in_ok-add.ensures.ok))
+    (filed_more entries c.self.inside.through c.add.new.counts c.self.inside.last c.args.access
+    c.self.invariant above (rw c.mount-mount.ensures at c.in_ok-add.ensures.ok))
 
 pub returns-clause-ok : goal.returns-clause-ok
 returns-clause-ok c =
@@ -36,5 +36,6 @@ returns-clause-ok c =
       comes_last c.self.inside.last c.args.access.number c.args.access entries above c.self.invariant.each,
       ← c.self.view_is,
     )
-    (ap {B = OpenState} (λ (accesses : List AccessState). record { accesses = accesses; last = c.args.access.number })
+    (ap {B = OpenState}
+    (λ (accesses : List AccessState). record { accesses = accesses; last = c.args.access.number })
     (values_more entries c.args.access.number c.args.access))

@@ -21,11 +21,13 @@ invariant_of-self c =
 pub returns-in-Some : goal.returns-in-Some
 returns-in-Some c =
     rw (c.remove.ensures.entries, ← c.self.view_is)
-    (ap {B = OpenState} (λ (accesses : List AccessState). record { accesses = accesses; last = c.self.inside.last })
+    (ap {B = OpenState}
+    (λ (accesses : List AccessState). record { accesses = accesses; last = c.self.inside.last })
     (removes c.self.inside.last c.args.number c.self.inside.by_number.entries c.self.invariant.each))
 
 pub returns-in_default : goal.returns-in_default
 returns-in_default c =
     rw (c.remove.ensures.entries, ← c.self.view_is)
-    (ap {B = OpenState} (λ (accesses : List AccessState). record { accesses = accesses; last = c.self.inside.last })
+    (ap {B = OpenState}
+    (λ (accesses : List AccessState). record { accesses = accesses; last = c.self.inside.last })
     (removes c.self.inside.last c.args.number c.self.inside.by_number.entries c.self.invariant.each))

@@ -28,5 +28,7 @@ invariant_of-self-2 c =
 pub returns : goal.returns
 returns c =
     rw ((c.get_mut.follows.holds c.args.access).0, ← c.self.view_is, c.number.ensures)
-    (ap {B = OpenState} (λ (accesses : List AccessState). record { accesses = accesses; last = c.self.inside.last })
-    (sets c.self.inside.last c.args.access.number c.args.access c.self.inside.by_number.entries c.self.invariant.each))
+    (ap {B = OpenState}
+    (λ (accesses : List AccessState). record { accesses = accesses; last = c.self.inside.last })
+    (sets c.self.inside.last c.args.access.number c.args.access c.self.inside.by_number.entries
+    c.self.invariant.each))

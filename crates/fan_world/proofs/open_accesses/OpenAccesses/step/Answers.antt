@@ -35,7 +35,8 @@ returns-in_err-outcome-clause-err c =
     rw (
       failed.1,
       written_back c.self.inside.by_number.entries _ c.self.inside.last c.args.number _ _
-          (sym c.in-Some.ensures.value) (c.get_mut.follows.holds c.step.new.access).0 c.in_err-outcome.ensures.access,
+          (sym c.in-Some.ensures.value) (c.get_mut.follows.holds c.step.new.access).0
+          c.in_err-outcome.ensures.access,
     )
     c.self.view_is
 

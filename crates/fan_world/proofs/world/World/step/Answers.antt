@@ -7,7 +7,8 @@ use Rattle.fan_world.proofs.world.World.step.Goals.{in-MkFile+in_ok-reply-in-MkF
 -- a state that steps make has few groups to ask and to tell
 pub begin-requires-clause-few : goal.begin-requires-clause-few
 begin-requires-clause-few c =
-    find_few (opens c.self.inside.machine.listeners) c.self.inside.machine.marks c.self.invariant.sound.marked_well
+    find_few (opens c.self.inside.machine.listeners) c.self.inside.machine.marks
+    c.self.invariant.sound.marked_well
 
 -- each step keeps what holds of the machine, by the clause of its handler
 pub invariant_of-self-2 : goal.invariant_of-self-2
