@@ -1,0 +1,3 @@
+pub mod MapState
+pub mod Counts
+pub mod Joined
