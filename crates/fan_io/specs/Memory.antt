@@ -8,9 +8,11 @@ pub record MemSourceState : Type 0 where
   pub calls : ℕ
   pub faults : ℕ
 
--- the bytes that were put; the numbers of the calls that are to fail; how many were made and failed
+-- the bytes that were put; for how many bytes in all there is room without more memory; the numbers of
+-- the calls that are to fail; how many were made and failed
 pub record MemSinkState : Type 0 where
   pub held : List ℕ
+  pub room : ℕ
   pub failing : List ℕ
   pub calls : ℕ
   pub faults : ℕ

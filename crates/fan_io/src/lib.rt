@@ -16,8 +16,8 @@ pub use mem_sink::MemSink;
 pub use mem_source::MemSource;
 pub use sink::{Sink, put_all};
 pub use source::{Source, TakeRefused, take_all};
-pub use std_sink::StdSink;
-pub use std_source::StdSource;
+pub use std_sink::{StdSink, Writer};
+pub use std_source::{Reader, StdSource};
 
 #[cfg(test)]
 mod tests;

@@ -1,9 +1,9 @@
 // A sink that keeps its bytes in memory, and some of whose calls fail.
-ghost use Rattle.std.specs.Prelude.{◌≡◌, ℕ, ◌<◌, ◌≤◌, [], Some, length, Contains, IfOk, IsErr};
+ghost use Rattle.std.specs.Prelude.{◌≡◌, ◌⊎◌, ℕ, ◌+◌, ◌<◌, ◌≤◌, [], Some, length, Contains, IfOk, IsErr, OnErr, OnOk};
 ghost use Rattle.std.specs.Io.KnownBytes.{WriteAppends};
 ghost use Rattle.fan_io.specs.Faults.{CountsFault, HasCause, next_count};
 
-use super::faults::{Failed, next};
+use super::faults::{Failed, NoMemory, next};
 use super::sink::Sink;
 use std::alloc::Global;
 use std::marker::Model;
@@ -18,12 +18,14 @@ pub struct MemSink {
 }
 
 impl Model for MemSink {
+    ghost use Rattle.std.specs.Prelude.{vec_capacity};
     ghost use Rattle.fan_io.specs.Memory.{MemSinkState};
 
     ghost Value = { MemSinkState };
 
     ghost view = { λ s. record {
       held = s.bytes.items;
+      room = vec_capacity s.bytes;
       failing = s.failing.items;
       calls = s.calls;
       faults = s.faults;
@@ -34,7 +36,13 @@ impl MemSink {
     /// An empty sink. The calls of `put` whose numbers stand in `failing`, counted from 1, fail.
     /// So does one that finds no memory for its piece.
     pub fn new(alloc: Global, failing: Vec<u64>) -> MemSink
-        ensures { result ≡ record { held = []; failing = failing.items; calls = 0; faults = 0 } }
+        ensures { result ≡ record {
+          held = [];
+          room = 0;
+          failing = failing.items;
+          calls = 0;
+          faults = 0;
+        } }
     {
         MemSink {
             bytes: Vec::new(alloc),
@@ -42,6 +50,16 @@ impl MemSink {
             calls: 0,
             faults: 0,
         }
+    }
+
+    /// Makes room for so many more bytes. Where no memory is found, the sink is as it was.
+    pub fn reserve(&mut self, more: usize) -> Result<(), NoMemory>
+        ensures ok { OnOk result (length self.old.held + more ≤ self.new.room) }
+        ensures same { self.new ≡ record self.old { room = self.new.room } }
+        ensures err { OnErr result (self.new ≡ self.old) }
+    {
+        self.bytes.reserve(more)?;
+        Ok(())
     }
 
     /// The bytes that were put.
@@ -64,6 +82,9 @@ impl Sink for MemSink {
         ensures bytes { WriteAppends (Some self.old.held) (Some self.new.held) result bytes.now }
         ensures cause { HasCause self.old.faults self.new.faults result }
         ensures fails { Contains self.old.failing (next_count self.old.calls) → IsErr result }
+        ensures only { OnErr result (Contains self.old.failing (next_count self.old.calls)
+            ⊎ (self.old.room < length self.old.held + length bytes.now)) }
+        ensures room { self.old.room ≤ self.new.room }
         ensures whole { IfOk result (λ count. count ≡ length bytes.now) }
         ensures plan { self.new.failing ≡ self.old.failing }
         ensures calls { self.new.calls ≡ next_count self.old.calls }

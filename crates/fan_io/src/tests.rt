@@ -1,8 +1,9 @@
 // Sources and sinks that fail, stop at the limit, or move a piece in parts.
-ghost use Rattle.std.specs.Prelude.{◌≤◌, None, length};
+ghost use Rattle.std.specs.Prelude.{◌<◌, ◌≤◌, None, IsOk, length};
 
 use super::{
-    Failed, MemSink, MemSource, Sink, Source, StdSink, StdSource, TakeRefused, put_all, take_all,
+    Failed, MemSink, MemSource, Reader, Sink, Source, StdSink, StdSource, TakeRefused, put_all,
+    take_all,
 };
 use std::io;
 use std::io::{Read, Write};
@@ -66,6 +67,30 @@ impl Write for Narrow {
     }
 }
 
+// Gives its bytes in pieces of three, and says that its reads never fail.
+#[derive(Drop)]
+struct Steady {
+    bytes: &'static [u8],
+}
+
+impl Reader for Steady {
+    ghost left = { λ _. None };
+
+    ghost may_answer = { λ _ answer _. IsOk answer };
+
+    fn read_once(&mut self, into: &mut [u8]) -> io::Result<usize> {
+        Ok(next_piece(&mut self.bytes, into))
+    }
+}
+
+// A source over such a reader never fails.
+fn take_steadily(source: &mut StdSource<Steady>, into: &mut [u8]) -> Result<usize, Failed>
+    requires { 0 < length into.old }
+    ensures { IsOk result }
+{
+    source.take(into)
+}
+
 #[test]
 fn a_reader_gives_its_bytes_and_its_failure(rt: HostRuntime) {
     let mut source = StdSource::new(Pieces { bytes: b"abcd" });
@@ -74,6 +99,17 @@ fn a_reader_gives_its_bytes_and_its_failure(rt: HostRuntime) {
     assert_eq!(rt; source.take(&mut into), Ok(1));
     assert_eq!(rt; into.as_slice(), b"dbc\0\0\0\0\0".as_slice());
     assert_eq!(rt; source.take(&mut into), Err(Failed));
+}
+
+#[test]
+fn the_end_of_a_reader_is_no_fault(rt: HostRuntime) {
+    let mut slice = StdSource::new(b"abcd".as_slice());
+    let mut steady = StdSource::new(Steady { bytes: b"abcd" });
+    let mut into = [0u8; 3];
+    for wanted in [3, 1, 0, 0] {
+        assert_eq!(rt; slice.take(&mut into), Ok(wanted));
+        assert_eq!(rt; take_steadily(&mut steady, &mut into), Ok(wanted));
+    }
 }
 
 #[test]
@@ -86,6 +122,17 @@ fn a_writer_that_takes_no_byte_has_failed(rt: HostRuntime) -> Result<(), Fail> {
     assert_eq!(rt; put_all(&mut sink, b"abcd"), Ok(()));
     assert_eq!(rt; sink.put(b"e"), Err(Failed));
     assert_eq!(rt; narrow.bytes.as_slice(), b"abcd".as_slice());
+    Ok(())
+}
+
+#[test]
+fn a_writer_that_never_fails_is_a_sink_that_never_fails(rt: HostRuntime) -> Result<(), Fail> {
+    let mut held = Vec::new(rt.alloc());
+    let mut sink = StdSink::new(&mut held);
+    for piece in ["a", "bcd", ""] {
+        assert_eq!(rt; put_all(&mut sink, piece.as_bytes()), Ok(()));
+    }
+    assert_eq!(rt; held.as_slice(), b"abcd".as_slice());
     Ok(())
 }
 
@@ -136,6 +183,7 @@ fn one_byte_past_the_limit_is_too_long(rt: HostRuntime) -> Result<(), Fail> {
 #[test]
 fn a_failing_put_adds_no_bytes(rt: HostRuntime) -> Result<(), Fail> {
     let mut sink = MemSink::new(rt.alloc(), [2].to_vec(rt.alloc())?);
+    assert_eq!(rt; sink.reserve(4), Ok(()));
     assert_eq!(rt; put_all(&mut sink, b"ab"), Ok(()));
     assert_eq!(rt; put_all(&mut sink, b"cd"), Err(Failed));
     assert_eq!(rt; put_all(&mut sink, b"ef"), Ok(()));
