@@ -9,19 +9,18 @@ use Rattle.std.specs.Prelude.{if◌then◌else◌}
 use Rattle.fan_bits.specs.declared.class.Class.{Class}
 use Rattle.fan_bits.specs.declared.class.Class.TheVariants.{PreContent, Content, Notif}
 use Rattle.fan_bits.specs.Interest.{bits_that, child_events}
-use Rattle.fan_bits.specs.MarkWords.{is_among}
 use Rattle.fan_bits.specs.Marks.{order_number}
-use Rattle.fan_bits.specs.Words.{occurs}
+use Rattle.fan_bits.specs.Words.{is_among, occurs}
 
--- the lesser of two bits is 1 where both are
+-- the lesser of two bits is 1 if both are
 both_bits : (a b : ℕ) → a < 2 → b < 2 → (min a b == 1) ≡ (a == 1 && b == 1)
 both_bits a b left right = grind (arith, nat_tests)
 
--- the greater of two bits is 1 where one is
+-- the greater of two bits is 1 if one is
 either_bit : (a b : ℕ) → a < 2 → b < 2 → (max a b == 1) ≡ (a == 1 || b == 1)
 either_bit a b left right = grind (arith, nat_tests)
 
--- the other bit is 1 where a bit isn't
+-- the other bit is 1 if a bit isn't
 other_bit : (a : ℕ) → a < 2 → (1 - a == 1) ≡ not (a == 1)
 other_bit a small = grind (arith, nat_tests)
 
@@ -90,7 +89,7 @@ with_bit_below word number event true below =
 with_bit_below word number event false below =
     let same : word + 0 ≡ word = omega arith in rw same refl
 
--- and this one just where it was put
+-- and this one exactly if it was put there
 with_bit_here : (word number : ℕ) (passes : Bool) → word < 2 ^ number
     → occurs (with_bit word number passes) number ≡ passes
 unfolding with_bit occurs
@@ -137,7 +136,7 @@ bits_that_agree (suc number) test other agree =
           (omega arith),
     ) refl
 
--- a word of bits that pass is 0 where none does
+-- a word of bits that pass is 0 if none does
 pub bits_that_none : (number : ℕ) (test : ℕ → Bool) → ((event : ℕ) → event < number → test event ≡ false)
     → bits_that number test ≡ 0
 unfolding bits_that
@@ -146,7 +145,7 @@ bits_that_none (suc number) test fails =
     rw (bits_that_none number test (λ event below. fails event (omega arith)), fails number (omega arith))
     refl
 
--- a word of bits that pass has one, where it is not 0
+-- a word of bits that pass has one if it is not 0
 pub bits_that_some : (number : ℕ) (test : ℕ → Bool) → bits_that number test ≢ 0
     → (event : ℕ) × (event < number) × (test event ≡ true)
 unfolding bits_that
@@ -168,7 +167,7 @@ occurs_child event below =
     let word : bits_that 32 (λ event. is_among event child_events) ≡ 0x7103f = refl in
     rw (← word) (occurs_bits_that 32 event (λ event. is_among event child_events) below)
 
--- the place in the order of groups tells class and group
+-- the position in the order of groups tells class and group
 pub same_group : (class other : Class) (group second : ℕ) → group < 2 ^ 32 → second < 2 ^ 32
     → order_number class group ≡ order_number other second → (class ≡ other) × (group ≡ second)
 same_group PreContent PreContent group second small less same = (refl, omega arith)

@@ -1,3 +1,10 @@
+pub mod InterestLaws
 pub mod InterestLemmas
+pub mod Interests
+pub mod Lists
 pub mod MarkCalls
+pub mod MarkLists
 pub mod Masks
+pub mod OnObjects
+pub mod Rising
+pub mod Updates

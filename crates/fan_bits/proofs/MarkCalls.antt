@@ -2,11 +2,11 @@
 use Rattle.std.proofs.Common.{◌≡◌, ◌↔◌, ℕ, ◌+◌, ◌<◌, ◌^◌, ◌==◌, Bool, true, false, ◌||◌, cond, arith, refl}
 use Rattle.std.proofs.lemmas.Bool.{and_parts}
 use Rattle.fan_bits.specs.declared.kind.Verb.TheVariants as verbs
-use Rattle.fan_bits.specs.MarkWords.{IsMarkCall, are_mark_flags, is_mark_call, is_mask, has_one, has_only, mask_bits, verb_flags, verb_of, mark_words_of, mark_add, mark_remove, mark_flush}
-use Rattle.fan_bits.specs.Words.{occurs}
+use Rattle.fan_bits.specs.MarkWords.{IsMarkCall, are_mark_flags, is_mark_call, is_mask, mask_bits, verb_flags, verb_of, mark_words_of, mark_add, mark_remove, mark_flush}
+use Rattle.fan_bits.specs.Words.{has_one, has_only, occurs}
 use Rattle.fan_bits.proofs.Masks.{mask_small}
 
--- where just one of three is given, it is the last just where neither of the others is
+-- if exactly one of three is given, it is the last exactly if neither of the others is
 one_verb : (add remove flush : Bool) → (0 + cond add 1 0 + cond remove 1 0 + cond flush 1 0 == 1) ≡ true
     → (cond add verbs.Add (cond remove verbs.Remove verbs.Flush) ≡ verbs.Flush) ↔ (flush ≡ true)
 one_verb true true true one = absurd cc
@@ -18,7 +18,7 @@ one_verb false true false one = (λ same. absurd cc, λ given. absurd cc)
 one_verb false false true one = (λ same. refl, λ given. refl)
 one_verb false false false one = absurd cc
 
--- of the flags of a call, what is done is a flush just where FAN_MARK_FLUSH is among them
+-- what the flags of a call do is a flush exactly if FAN_MARK_FLUSH is among them
 pub flush_flag : (flags mask init : ℕ) → IsMarkCall flags mask init
     → (verb_of flags ≡ verbs.Flush) ↔ (occurs flags mark_flush ≡ true)
 unfolding is_mark_call are_mark_flags has_one

@@ -5,35 +5,31 @@ use Rattle.std.specs.Int.RustNames.{bit_and, bit_or}
 use Rattle.std.specs.Int.Bits.{or_add_and}
 use Rattle.std.proofs.lemmas.Nat.Bits.{and_pow, bit_at-lt, bit_at_and, bit_at_or, same_from_bits, same_from_bits_below}
 use Rattle.std.proofs.lemmas.Nat.{pow_pos, and_comm, and_le_l, and_le_r}
+use Rattle.std.proofs.lemmas.Bool.{and_parts}
 use Rattle.std.proofs.lemmas.Bool.Decides.{nat_tests}
-use Rattle.fan_bits.specs.MarkWords.{has_any, has_only, is_among, mark_flags, flush_flags, mask_bits}
-use Rattle.fan_bits.specs.Words.{occurs, all_below, has_only_flags, init_flags}
+use Rattle.fan_bits.specs.MarkWords.{mark_flags, flush_flags, mask_bits}
+use Rattle.fan_bits.specs.Words.{all_below, has_any, has_only, init_flags, is_among, occurs}
 
--- a bit times a power of two is that power just where the bit is 1
+-- a bit times a power of two is that power exactly if the bit is 1
 bit_times : (bit power : ℕ) → bit < 2 → 0 < power → (bit * power == power) ≡ (bit == 1)
 bit_times zero power small some = grind (arith, nat_tests)
 bit_times (suc zero) power small some = grind (arith, nat_tests)
 bit_times (suc (suc more)) power small some = absurd (omega arith)
 
--- and is 0 just where it is not
+-- and is 0 exactly if it is not
 bit_times_none : (bit power : ℕ) → bit < 2 → 0 < power → (bit * power == 0) ≡ not (bit == 1)
 bit_times_none zero power small some = grind (arith, nat_tests)
 bit_times_none (suc zero) power small some = grind (arith, nat_tests)
 bit_times_none (suc (suc more)) power small some = absurd (omega arith)
 
--- a word has all of a mask of one bit just where this bit occurs
+-- a word has all of a mask of one bit exactly if this bit occurs
 pub mask_occurs : (flags mask number : ℕ) → mask ≡ 2 ^ number
     → (bit_and flags mask == mask) ≡ occurs flags number
 unfolding occurs
 mask_occurs flags mask number is =
     rw (is, and_pow) (bit_times (bit_at flags number) (2 ^ number) (bit_at-lt flags number) (pow_pos number))
 
--- both of two tests that pass together pass
-both_pass : (a b : Bool) → (a && b) ≡ true → (a ≡ true) × (b ≡ true)
-both_pass true b passes = (refl, passes)
-both_pass false b passes = absurd cc
-
--- two tests of which each passes where the other does are the same
+-- two tests of which each passes if the other does are the same
 pub same_tests : (a b : Bool) → (a ≡ true → b ≡ true) → (b ≡ true → a ≡ true) → a ≡ b
 same_tests true b there back = sym (there refl)
 same_tests false true there back = back refl
@@ -44,7 +40,7 @@ all_below_at : (number at : ℕ) (test : ℕ → Bool) → at < number → all_b
 unfolding all_below
 all_below_at zero at test below passes = absurd (omega arith)
 all_below_at (suc number) at test below passes =
-    let parts = both_pass (all_below number test) (test number) passes in
+    let parts = and_parts (all_below number test) (test number) passes in
     elim (eqb at number) as (λ same. eqb at number ≡ same → test at ≡ true) [
       | true ↦ λ same. let here : at ≡ number = eqb-true at number same in rw here parts.1
       | false ↦ λ other. all_below_at number at test (grind (arith, nat_tests)) parts.0
@@ -61,13 +57,13 @@ all_below_all (suc number) test each =
     let here : test number ≡ true = each number (omega arith) in
     rw (before, here) refl
 
--- a bit that is 1 only where a flag is stays under the mask of all flags
+-- a bit that is 1 only if it is a flag's stays under the mask of all flags
 kept_bit : (flag : Bool) (bit mask : ℕ) → bit < 2 → (mask == cond flag 1 0) ≡ true
     → (flag || not (bit == 1)) ≡ true → min bit mask ≡ bit
 kept_bit true bit mask small is only = grind (arith, nat_tests)
 kept_bit false bit mask small is only = grind (arith, nat_tests)
 
--- and one that stays under this mask is 1 only where a flag is
+-- and one that stays under this mask is 1 only if it is a flag's
 only_bit : (flag : Bool) (bit mask : ℕ) → bit < 2 → (mask == cond flag 1 0) ≡ true
     → min bit mask ≡ bit → (flag || not (bit == 1)) ≡ true
 only_bit true bit mask small is kept = refl
@@ -78,7 +74,7 @@ abbrev pub is_mask_of : ℕ → List ℕ → ℕ → Bool
 is_mask_of width numbers mask =
     all_below width (λ number. bit_at mask number == cond (is_among number numbers) 1 0)
 
--- a word keeps all its bits under the mask of a list just where it has only these bits
+-- a word keeps all its bits under the mask of a list exactly if it has only these bits
 pub mask_has_only : (width : ℕ) (numbers : List ℕ) (mask word : ℕ) → is_mask_of width numbers mask ≡ true
     → word < 2 ^ width → (bit_and word mask == word) ≡ has_only width numbers word
 unfolding has_only occurs
@@ -102,8 +98,9 @@ kept_tests result word mask known =
     same_tests _ _ (λ some. eq-eqb _ _ (known.0 some)) (λ kept. known.1 (eqb-true _ _ kept))
 
 -- the flags of fanotify_init(2)
-pub mask_has_only_flags : (flags : ℕ) → flags < 2 ^ 32 → (bit_and flags 0xf3f == flags) ≡ has_only_flags flags
-unfolding has_only_flags has_only all_below
+pub mask_has_only_flags : (flags : ℕ) → flags < 2 ^ 32
+    → (bit_and flags 0xf3f == flags) ≡ has_only 32 init_flags flags
+unfolding all_below
 mask_has_only_flags flags small = mask_has_only 32 init_flags 0xf3f flags refl small
 
 -- the flags of fanotify_mark(2)
@@ -146,7 +143,7 @@ and_or word a b = same_from_bits _ _ (λ at.
       bit_at_and word b at,
     ) (omega arith))
 
--- two words joined have no bit just where neither has one
+-- two words joined have no bit exactly if neither has one
 or_none : (a b : ℕ) → (bit_or a b == 0) ≡ ((a == 0) && (b == 0))
 or_none a b = grind (arith, nat_tests, or_add_and a b, and_le_l a b, and_le_r a b)
 
@@ -155,7 +152,7 @@ not_or : (a b : Bool) → (not a && not b) ≡ not (a || b)
 not_or true b = refl
 not_or false b = refl
 
--- a word shares no bit with the mask of a list just where it has none of these bits
+-- a word shares no bit with the mask of a list exactly if it has none of these bits
 mask_none : (numbers : List ℕ) (word : ℕ) → (bit_and word (mask_of numbers) == 0) ≡ not (has_any numbers word)
 unfolding has_any occurs
 mask_none [] word = eq-eqb _ _ (omega (arith, and_le_r word 0))
@@ -169,7 +166,7 @@ not_not : (a : Bool) → not (not a) ≡ a
 not_not true = refl
 not_not false = refl
 
--- a word shares a bit with the mask of a list just where it has one of these bits
+-- a word shares a bit with the mask of a list exactly if it has one of these bits
 pub mask_has_any : (numbers : List ℕ) (word : ℕ)
     → not (bit_and word (mask_of numbers) == 0) ≡ has_any numbers word
 mask_has_any numbers word = ap not (mask_none numbers word) ∙ not_not _

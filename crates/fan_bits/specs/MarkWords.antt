@@ -1,109 +1,153 @@
 -- The flags and the mask with which the marks of a group are changed: fanotify_mark(2).
-use Rattle.std.specs.Prelude.{◌≡◌, ℕ, ◌==◌, Bool, true, false, not, ◌&&◌, ◌||◌, if◌then◌else◌, List, [], ◌∷◌, ◌++◌, count_by}
-use Rattle.std.specs.List.{list_any}
+use Rattle.std.specs.Prelude.{◌≡◌, ℕ, ◌==◌, Bool, true, false, not, ◌&&◌, ◌||◌, if◌then◌else◌, List, [], ◌∷◌, ◌++◌}
 use Rattle.fan_bits.specs.declared.class.Class.{Class}
-use Rattle.fan_bits.specs.declared.class.Class.TheVariants.{PreContent, Content, Notif}
+use Rattle.fan_bits.specs.declared.class.Class.TheVariants.{Notif}
 use Rattle.fan_bits.specs.declared.kind.Kind.{Kind}
 use Rattle.fan_bits.specs.declared.kind.Kind.TheVariants as kinds
 use Rattle.fan_bits.specs.declared.kind.Verb.{Verb}
 use Rattle.fan_bits.specs.declared.kind.Verb.TheVariants as verbs
 use Rattle.fan_bits.specs.declared.mark_call.MarkWords.{MarkWords}
-use Rattle.fan_bits.specs.Words.{occurs, all_below, class_of, has_handles}
+use Rattle.fan_bits.specs.Words.{bit, class_of, has_any, has_handles, has_one, has_only, occurs}
 
--- the number of the bit of each flag
+-- the number of the bit FAN_MARK_ADD
 abbrev pub mark_add : ℕ
 mark_add = 0
 
+-- the number of the bit FAN_MARK_REMOVE
 abbrev pub mark_remove : ℕ
 mark_remove = 1
 
+-- the number of the bit FAN_MARK_DONT_FOLLOW
 abbrev pub dont_follow : ℕ
 dont_follow = 2
 
+-- the number of the bit FAN_MARK_ONLYDIR
 abbrev pub only_dir : ℕ
 only_dir = 3
 
+-- the number of the bit FAN_MARK_MOUNT
 abbrev pub mark_mount : ℕ
 mark_mount = 4
 
+-- the number of the bit FAN_MARK_IGNORED_MASK
 abbrev pub ignored_mask : ℕ
 ignored_mask = 5
 
+-- the number of the bit FAN_MARK_IGNORED_SURV_MODIFY
 abbrev pub ignored_surv_modify : ℕ
 ignored_surv_modify = 6
 
+-- the number of the bit FAN_MARK_FLUSH
 abbrev pub mark_flush : ℕ
 mark_flush = 7
 
+-- the number of the bit FAN_MARK_FILESYSTEM
 abbrev pub mark_filesystem : ℕ
 mark_filesystem = 8
 
--- the number of the bit of each event of a mask, and of the two that qualify one
+-- the number of the bit FAN_ACCESS
 abbrev pub access : ℕ
 access = 0
 
+-- the number of the bit FAN_MODIFY
 abbrev pub modify : ℕ
 modify = 1
 
+-- the number of the bit FAN_ATTRIB
 abbrev pub attrib : ℕ
 attrib = 2
 
+-- the number of the bit FAN_CLOSE_WRITE
 abbrev pub close_write : ℕ
 close_write = 3
 
+-- the number of the bit FAN_CLOSE_NOWRITE
 abbrev pub close_nowrite : ℕ
 close_nowrite = 4
 
+-- the number of the bit FAN_OPEN
 abbrev pub opened : ℕ
 opened = 5
 
+-- the number of the bit FAN_MOVED_FROM
 abbrev pub moved_from : ℕ
 moved_from = 6
 
+-- the number of the bit FAN_MOVED_TO
 abbrev pub moved_to : ℕ
 moved_to = 7
 
+-- the number of the bit FAN_CREATE
 abbrev pub create : ℕ
 create = 8
 
+-- the number of the bit FAN_DELETE
 abbrev pub delete : ℕ
 delete = 9
 
+-- the number of the bit FAN_DELETE_SELF
 abbrev pub delete_self : ℕ
 delete_self = 10
 
+-- the number of the bit FAN_MOVE_SELF
 abbrev pub move_self : ℕ
 move_self = 11
 
+-- the number of the bit FAN_OPEN_EXEC
 abbrev pub open_exec : ℕ
 open_exec = 12
 
+-- the number of the bit FAN_Q_OVERFLOW, which only the event that stands for lost ones has
+abbrev pub overflow : ℕ
+overflow = 14
+
+-- the number of the bit FAN_OPEN_PERM
 abbrev pub open_perm : ℕ
 open_perm = 16
 
+-- the number of the bit FAN_ACCESS_PERM
 abbrev pub access_perm : ℕ
 access_perm = 17
 
+-- the number of the bit FAN_OPEN_EXEC_PERM
 abbrev pub open_exec_perm : ℕ
 open_exec_perm = 18
 
+-- the number of the bit FAN_EVENT_ON_CHILD
 abbrev pub event_on_child : ℕ
 event_on_child = 27
 
+-- the number of the bit FAN_ONDIR
 abbrev pub ondir : ℕ
 ondir = 30
 
--- the three that say what is done, of which one is given
+-- the word FAN_OPEN
+abbrev pub open_bit : ℕ
+open_bit = bit opened
+
+-- the word FAN_MODIFY
+abbrev pub modify_bit : ℕ
+modify_bit = bit modify
+
+-- the word FAN_OPEN_PERM
+abbrev pub open_perm_bit : ℕ
+open_perm_bit = bit open_perm
+
+-- the word FAN_Q_OVERFLOW
+abbrev pub overflow_bit : ℕ
+overflow_bit = bit overflow
+
+-- the flags that say what is done
 abbrev pub verb_flags : List ℕ
 verb_flags = mark_add ∷ mark_remove ∷ mark_flush ∷ []
 
--- the flags that there are
+-- the bits of all flags
 abbrev pub mark_flags : List ℕ
 mark_flags =
     mark_add ∷ mark_remove ∷ dont_follow ∷ only_dir ∷ mark_mount ∷ ignored_mask
     ∷ ignored_surv_modify ∷ mark_flush ∷ mark_filesystem ∷ []
 
--- the flags that may stand beside FAN_MARK_FLUSH
+-- FAN_MARK_FLUSH and the flags that may be given with it
 abbrev pub flush_flags : List ℕ
 flush_flags = mark_mount ∷ mark_flush ∷ mark_filesystem ∷ []
 
@@ -111,39 +155,23 @@ flush_flags = mark_mount ∷ mark_flush ∷ mark_filesystem ∷ []
 abbrev pub perm_events : List ℕ
 perm_events = open_perm ∷ access_perm ∷ open_exec_perm ∷ []
 
--- the events that are reported by handles alone
+-- the events that are only reported by handles
 abbrev pub handle_events : List ℕ
 handle_events = attrib ∷ moved_from ∷ moved_to ∷ create ∷ delete ∷ delete_self ∷ move_self ∷ []
 
--- the bits of a mask
+-- the bits that a mask may have
 abbrev pub mask_bits : List ℕ
 mask_bits =
     access ∷ modify ∷ close_write ∷ close_nowrite ∷ opened ∷ open_exec ∷ event_on_child ∷ ondir ∷ []
     ++ perm_events ++ handle_events
 
--- the number is one of a list
-abbrev pub is_among : ℕ → List ℕ → Bool
-is_among number numbers = list_any (λ other. other == number) numbers
-
--- a word, of so many bits, has no bit but those of a list
-unfoldable pub has_only : ℕ → List ℕ → ℕ → Bool
-has_only width numbers word = all_below width (λ number. is_among number numbers || not (occurs word number))
-
--- a word has a bit of a list
-unfoldable pub has_any : List ℕ → ℕ → Bool
-has_any numbers word = list_any (λ number. occurs word number) numbers
-
--- a word has just one bit of a list
-unfoldable pub has_one : List ℕ → ℕ → Bool
-has_one numbers word = count_by (λ number. occurs word number) numbers == 1
-
--- a group that is never asked
+-- a group of this class is never asked for permission
 abbrev pub is_notif : Class → Bool
-is_notif PreContent = false
-is_notif Content = false
 is_notif Notif = true
+is_notif _ = false
 
--- the flags: each is one, one verb, not both kinds, and FAN_MARK_FLUSH with a kind alone
+-- no other bits are given, exactly one flag says what is done, at most one what the mark is on, and
+-- FAN_MARK_FLUSH is given with a kind alone
 unfoldable pub are_mark_flags : ℕ → Bool
 are_mark_flags flags =
     has_only 32 mark_flags flags
@@ -151,9 +179,9 @@ are_mark_flags flags =
     && not (occurs flags mark_mount && occurs flags mark_filesystem)
     && (not (occurs flags mark_flush) || has_only 32 flush_flags flags)
 
--- the mask, by the flags beside it and the flags of the group: it has a bit, each is one, no permission
--- event for a group that is never asked, and an event by handles only where the group has them and the
--- mark is no mount's
+-- the mask, by the flags of the call and of the group: it is not empty and has no other bits; it has no
+-- permission event if the group is never asked, and no event that is only reported by handles if the group
+-- reports none or the mark is on a mount
 unfoldable pub is_mask : ℕ → ℕ → ℕ → Bool
 is_mask mask flags init =
     not (mask == 0)
@@ -161,7 +189,7 @@ is_mask mask flags init =
     && not (has_any perm_events mask && is_notif (class_of init))
     && not (has_any handle_events mask && (not (has_handles init) || occurs flags mark_mount))
 
--- a group with these init flags can be given this call; FAN_MARK_FLUSH looks at no mask
+-- the call is valid for a group with these init flags; FAN_MARK_FLUSH ignores the mask
 unfoldable pub is_mark_call : ℕ → ℕ → ℕ → Bool
 is_mark_call flags mask init =
     are_mark_flags flags && (occurs flags mark_flush || is_mask mask flags init)
@@ -170,7 +198,7 @@ is_mark_call flags mask init =
 abbrev pub IsMarkCall : ℕ → ℕ → ℕ → Type 0
 IsMarkCall flags mask init = is_mark_call flags mask init ≡ true
 
--- what the flags do
+-- what is done
 abbrev pub verb_of : ℕ → Verb
 verb_of flags =
     if occurs flags mark_add then verbs.Add

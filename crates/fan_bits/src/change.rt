@@ -1,4 +1,5 @@
-// A change of marks: fanotify_mark(2), and what becomes of marks whose file, object or group goes.
+// A change of marks: a call of fanotify_mark(2), a write to a file, or the end of a group or an
+// object.
 ghost use Rattle.std.specs.Prelude.{◌≡◌};
 ghost use Rattle.fan_bits.specs.Marks.{updated, put_mark, or_blank, put_on, with_bits, without_bits, standing};
 
@@ -10,43 +11,53 @@ use super::mark_call::MarkWords;
 /// One change of the marks of all groups.
 #[derive(Clone, Copy, Debug, PartialEq, Eq)]
 pub enum Change {
-    /// Bits are put on the mark of a group on an object, or taken from it; never with `Verb::Flush`.
+    /// FAN_MARK_ADD and FAN_MARK_REMOVE: bits are put on the mark of a group on an object, or taken
+    /// from it.
     Put {
+        /// The group, from 1.
         group: u32,
+        /// The class of the group.
         class: Class,
+        /// What the call asks for; its verb is never `Flush`.
         words: MarkWords,
+        /// The object, from 1 to 65,535.
         object: u32,
     },
-    /// All marks of a group on objects of a kind go.
+    /// FAN_MARK_FLUSH: all marks of a group on objects of a kind are removed.
     Flush {
+        /// The group.
         group: u32,
+        /// The kind of the objects.
         kind: Kind,
     },
-    /// A file was written to: its ignored sets that don't survive this are emptied.
+    /// A file was written to: the ignored sets on it are emptied, unless they survive this.
     Clear {
+        /// The file.
         object: u32,
     },
-    /// A group was closed: its marks go.
+    /// A group was closed: its marks are removed.
     DropGroup {
+        /// The group.
         group: u32,
     },
-    /// An object is gone: the marks on it go.
+    /// An object is gone: the marks on it are removed.
     DropObject {
+        /// The object.
         object: u32,
     },
 }
 
-/// What a change did.
+/// The summary of a change that was made.
 #[derive(Clone, Copy, Debug, PartialEq, Eq)]
 pub struct Changed {
-    /// Whether the list of marks is another one than before.
+    /// Whether the list of marks differs from the one before.
     pub changed: bool,
     /// How many marks were removed, or replaced by different ones.
     pub retired: u32,
 }
 
-/// The mark of a group on an object after bits were put on it or taken from it; None where none stands.
-/// `old` is the mark before, if there was one. Other changes leave it as it is.
+/// The mark of a group on an object after a `Put`; None if it has no event left. `old` is the mark
+/// before, if there was one. Other changes leave `old` as it is.
 #[tactic(auto, unfolding(crate::specs::Marks::updated))]
 pub fn updated(old: Option<Mark>, change: &Change) -> Option<Mark>
     ensures { result ≡ updated old change.now }
@@ -80,7 +91,7 @@ fn put_mark(
     standing(put_on(words, before))
 }
 
-// The mark that a change starts from: the one that is there, or one without a bit.
+// The mark to which a Put is applied: the one that is there, or a new one without bits.
 fn or_blank(old: Option<Mark>, group: u32, class: Class, kind: Kind, object: u32) -> Mark
     ensures { result ≡ or_blank old group class kind object }
 {
@@ -98,7 +109,7 @@ fn or_blank(old: Option<Mark>, group: u32, class: Class, kind: Kind, object: u32
     }
 }
 
-// The mark with the bits put on it or taken from it.
+// The mark with bits put on it or taken from it.
 fn put_on(words: MarkWords, mark: Mark) -> Mark
     ensures { result ≡ put_on words.verb words mark }
 {
@@ -109,7 +120,8 @@ fn put_on(words: MarkWords, mark: Mark) -> Mark
     }
 }
 
-// Joins the bits to the mask, or its events to the ignored set, which may then be said to survive.
+// Adds the bits to the mask, or the events among them to the ignored set, which may then be told to
+// survive.
 fn with_bits(words: MarkWords, mark: Mark) -> Mark
     ensures { result ≡ with_bits words mark }
 {
@@ -127,7 +139,7 @@ fn with_bits(words: MarkWords, mark: Mark) -> Mark
     }
 }
 
-// Takes the bits from the mask or from the ignored set.
+// Removes the bits from the mask or from the ignored set.
 fn without_bits(words: MarkWords, mark: Mark) -> Mark
     ensures { result ≡ without_bits words mark }
 {
@@ -144,7 +156,7 @@ fn without_bits(words: MarkWords, mark: Mark) -> Mark
     }
 }
 
-// The mark, where it stands.
+// The mark, if it has an event.
 fn standing(mark: Mark) -> Option<Mark>
     ensures { result ≡ standing mark }
 {

@@ -14,7 +14,7 @@ pub enum Class {
 }
 
 impl Class {
-    /// The place of the class in the order in which groups are asked and told, from 0.
+    /// The rank of the class in the order in which groups are asked and told, from 0.
     pub fn rank(self) -> u32
         ensures { result ≡ rank_of self }
     {

@@ -5,23 +5,23 @@
 pub enum Errno {
     /// No such group is open.
     Ebadf,
-    /// A flag, a mask, a size or a response is out of form.
+    /// A flag, a mask, a size or a response is invalid.
     Einval,
     /// There is no such file, filesystem or mark, or no event waits under that descriptor.
     Enoent,
-    /// A directory was wanted.
+    /// It is not a directory, where one is needed.
     Enotdir,
-    /// A directory was not wanted.
+    /// It is a directory, where a file is needed.
     Eisdir,
     /// The name or the number is taken.
     Eexist,
-    /// The directory has entries.
+    /// The directory is not empty.
     Enotempty,
-    /// A mount or an open access is in the way.
+    /// A mount or an open access uses it.
     Ebusy,
     /// The two paths are on different mounts.
     Exdev,
-    /// No object number or no mark is left.
+    /// No number for an object is left, or the group has as many marks as it may have.
     Enospc,
     /// Too many groups are open.
     Emfile,

@@ -5,7 +5,7 @@ use bitflags::{Flag, Flags, bitflag_items};
 
 // A set of the flags of fanotify_init(2).
 #[derive(Clone, Copy, Debug, PartialEq, Eq)]
-pub(crate) struct InitFlags(u32);
+pub(crate) struct InitFlags(pub(crate) u32);
 
 bitflag_items! {
     impl InitFlags: u32 {

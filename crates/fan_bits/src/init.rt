@@ -1,6 +1,6 @@
 // The flag word with which a group is made: fanotify_init(2).
 ghost use Rattle.std.specs.Prelude.{◌≡◌, ◌↔◌, ◌^◌, ℕ, IsErr, IsOk, IfErr, IfOk, IfSome, is_some};
-ghost use Rattle.fan_bits.specs.Words.{IsInitFlags, is_init_flags, has_only_flags, agree, occurs, class_of, has_handles, unlimited_queue, unlimited_marks, report_tid, report_fid, report_dir_fid};
+ghost use Rattle.fan_bits.specs.Words.{IsInitFlags, is_init_flags, has_only, init_flags, agree, occurs, class_of, has_handles, unlimited_queue, unlimited_marks, report_tid, report_fid, report_dir_fid};
 
 use super::class::Class;
 use super::errno::Errno;
@@ -15,10 +15,13 @@ pub struct InitWords {
     pub ghost valid: { IsInitFlags bits },
 }
 
-/// Takes a flag word for a group. `Einval` comes exactly where a bit is no flag of
-/// fanotify_init(2), where both class flags stand together, where FAN_REPORT_FID or
-/// FAN_REPORT_DIR_FID stands with a class flag, or where FAN_REPORT_NAME stands without
-/// FAN_REPORT_DIR_FID.
+/// Takes a flag word for a group.
+///
+/// # Errors
+///
+/// `Einval` if a bit is no flag of fanotify_init(2), if both class flags are given, if a class flag
+/// is given with FAN_REPORT_FID or FAN_REPORT_DIR_FID, or if FAN_REPORT_NAME is given without
+/// FAN_REPORT_DIR_FID; never otherwise.
 pub fn init_words(flags: u32) -> Result<InitWords, Errno>
     ensures word { IfOk result (λ words. words.bits ≡ flags) }
     ensures taken { IsOk result ↔ IsInitFlags flags }
@@ -42,15 +45,15 @@ fn is_valid(flags: u32) -> bool
     }
 }
 
-// The word as a set of flags, where each of its bits is a flag.
+// The word as a set of flags, if it has no other bits.
 fn only_flags(flags: u32) -> Option<InitFlags>
     ensures given { IfSome result (λ given. given.0 ≡ flags) }
-    ensures found { is_some result ≡ has_only_flags flags }
+    ensures found { is_some result ≡ has_only 32 init_flags flags }
 {
     InitFlags::from_bits(flags)
 }
 
-// Whether the flags may stand together.
+// Whether the flags may be given together.
 fn agree(given: InitFlags) -> bool
     ensures { result ≡ agree given.0 }
 {
@@ -89,21 +92,21 @@ impl InitWords {
         }
     }
 
-    /// Whether FAN_UNLIMITED_QUEUE is given: the queue has no limit.
+    /// Whether FAN_UNLIMITED_QUEUE is given: the queue of the group has no limit.
     pub fn unlimited_queue(self) -> bool
         ensures { result ≡ occurs self.bits unlimited_queue }
     {
         self.has(InitFlags::UNLIMITED_QUEUE)
     }
 
-    /// Whether FAN_UNLIMITED_MARKS is given: the group's marks have no limit.
+    /// Whether FAN_UNLIMITED_MARKS is given: the group may have any number of marks.
     pub fn unlimited_marks(self) -> bool
         ensures { result ≡ occurs self.bits unlimited_marks }
     {
         self.has(InitFlags::UNLIMITED_MARKS)
     }
 
-    /// Whether FAN_REPORT_TID is given: events report the thread in place of the process.
+    /// Whether FAN_REPORT_TID is given: events report a thread instead of its process.
     pub fn reports_tid(self) -> bool
         ensures { result ≡ occurs self.bits report_tid }
     {
@@ -124,7 +127,7 @@ impl InitWords {
         self.has(InitFlags::REPORT_DIR_FID)
     }
 
-    /// Whether events report handles in place of descriptors.
+    /// Whether events report handles instead of descriptors: one of the two is given.
     pub fn has_handles(self) -> bool
         ensures { result ≡ has_handles self.bits }
     {

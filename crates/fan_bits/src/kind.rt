@@ -1,7 +1,7 @@
 // What a mark is on, and what is done to it: fanotify_mark(2).
 
 /// What a mark is on.
-#[derive(Clone, Copy, Debug, PartialEq, Eq)]
+#[derive(Clone, Copy, Debug, PartialEq, Eq, PartialOrd, Ord)]
 pub enum Kind {
     /// A file or a directory.
     Inode,
@@ -14,10 +14,10 @@ pub enum Kind {
 /// What is done to the marks of a group.
 #[derive(Clone, Copy, Debug, PartialEq, Eq)]
 pub enum Verb {
-    /// FAN_MARK_ADD: bits are joined to a mark.
+    /// FAN_MARK_ADD: bits are added to a mark.
     Add,
-    /// FAN_MARK_REMOVE: bits are taken from a mark.
+    /// FAN_MARK_REMOVE: bits are removed from a mark.
     Remove,
-    /// FAN_MARK_FLUSH: all marks of a kind go.
+    /// FAN_MARK_FLUSH: all marks on objects of a kind are removed.
     Flush,
 }

@@ -2,6 +2,7 @@
 ghost use Rattle.std.specs.Prelude.{◌≡◌};
 ghost use Rattle.fan_bits.specs.Marks.{order_number, order_of, stands, without};
 
+use super::bits::{FAN_EVENT_ON_CHILD, FAN_ONDIR};
 use super::class::Class;
 use super::kind::Kind;
 
@@ -16,16 +17,17 @@ pub struct Mark {
     pub object: u32,
     /// What the object is.
     pub kind: Kind,
-    /// The events that it asks for, with FAN_ONDIR and FAN_EVENT_ON_CHILD.
+    /// The events that it asks for, as bits of fanotify_mark(2), with FAN_ONDIR and
+    /// FAN_EVENT_ON_CHILD.
     pub mask: u32,
     /// The events that it ignores.
     pub ignored: u32,
-    /// Whether the ignored set survives a change of the file.
+    /// Whether the ignored set survives a write to the file.
     pub survives: bool,
 }
 
-/// The place of a group in the order of asks and tells: the rank of its class times 2^32, and its
-/// number. 0 is before all.
+/// The position of a group in the order of asks and tells: the rank of its class times 2^32, plus
+/// its number. 0 comes before all groups.
 #[derive(Clone, Copy, Debug, PartialEq, Eq, PartialOrd, Ord)]
 pub struct Order(pub u64);
 
@@ -33,7 +35,7 @@ impl Order {
     /// Before all groups.
     pub const START: Order = Order(0);
 
-    /// The place of a group of a class.
+    /// The position of a group of a class.
     pub fn of(class: Class, group: u32) -> Order
         ensures { result.0 ≡ order_number class group }
     {
@@ -42,14 +44,14 @@ impl Order {
 }
 
 impl Mark {
-    /// The place of its group.
+    /// The position of its group in the order of asks and tells.
     pub fn order(&self) -> Order
         ensures { result.0 ≡ order_of self.now }
     {
         Order::of(self.class, self.group)
     }
 
-    /// Whether it has an event in its mask or in its ignored set. One without doesn't stand.
+    /// Whether it has an event in its mask or in its ignored set. A mark without one is removed.
     pub fn stands(&self) -> bool
         ensures { result ≡ stands self.now }
     {
@@ -58,8 +60,8 @@ impl Mark {
     }
 }
 
-/// FAN_EVENT_ON_CHILD and FAN_ONDIR, which qualify events and are none.
-pub(crate) const QUALIFIERS: u32 = 0x4800_0000;
+// The two bits that qualify events and are none.
+pub(crate) const QUALIFIERS: u32 = FAN_ONDIR | FAN_EVENT_ON_CHILD;
 
 // The word without the bits of another.
 pub(crate) fn without(word: u32, bits: u32) -> u32

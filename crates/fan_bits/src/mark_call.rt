@@ -1,7 +1,7 @@
 // The flags and the mask with which the marks of a group are changed: fanotify_mark(2).
 ghost use Rattle.std.specs.Prelude.{◌≡◌, ◌↔◌, ◌^◌, ◌&&◌, ◌||◌, ℕ, not, IsErr, IsOk, IfErr, IfOk, IfSome, is_some, if◌then◌else◌};
-ghost use Rattle.fan_bits.specs.MarkWords.{IsMarkCall, are_mark_flags, flush_flags, has_one, has_only, is_mask, kind_of, mark_filesystem, mark_flags, mark_flush, mark_mount, mark_words_of, verb_flags, verb_of};
-ghost use Rattle.fan_bits.specs.Words.{occurs};
+ghost use Rattle.fan_bits.specs.MarkWords.{IsMarkCall, are_mark_flags, flush_flags, is_mask, kind_of, mark_filesystem, mark_flags, mark_flush, mark_mount, mark_words_of, verb_flags, verb_of};
+ghost use Rattle.fan_bits.specs.Words.{has_one, has_only, occurs};
 
 use super::errno::Errno;
 use super::init::InitWords;
@@ -17,22 +17,27 @@ pub struct MarkWords {
     pub verb: Verb,
     /// What the mark is on.
     pub kind: Kind,
-    /// FAN_MARK_ONLYDIR: the object has to be a directory.
+    /// FAN_MARK_ONLYDIR: the object must be a directory.
     pub only_dir: bool,
-    /// FAN_MARK_IGNORED_MASK: the bits are those of the ignored set.
+    /// FAN_MARK_IGNORED_MASK: the mask is for the ignored set.
     pub ignored: bool,
-    /// FAN_MARK_IGNORED_SURV_MODIFY: the ignored set survives a change of the file.
+    /// FAN_MARK_IGNORED_SURV_MODIFY: the ignored set survives a write to the file.
     pub survives: bool,
     /// The events, with FAN_ONDIR and FAN_EVENT_ON_CHILD; 0 with FAN_MARK_FLUSH.
     pub mask: u32,
 }
 
-/// Takes the flags and the mask of a call for a group. `Einval` comes exactly where a flag is none of
-/// fanotify_mark(2), where not just one of FAN_MARK_ADD, FAN_MARK_REMOVE and FAN_MARK_FLUSH is given,
-/// where both FAN_MARK_MOUNT and FAN_MARK_FILESYSTEM are, where another flag stands with
-/// FAN_MARK_FLUSH; and, but for FAN_MARK_FLUSH, where the mask is 0, has a bit that is none, has a
-/// permission event for a group of class FAN_CLASS_NOTIF, or has an event that is reported by handles
-/// alone where the group has none or the mark is a mount's.
+/// Takes the flags and the mask of a call of fanotify_mark(2) for a group.
+///
+/// # Errors
+///
+/// `Einval` if a bit of the flags is no flag of fanotify_mark(2), if not exactly one of
+/// FAN_MARK_ADD, FAN_MARK_REMOVE and FAN_MARK_FLUSH is given, if both FAN_MARK_MOUNT and
+/// FAN_MARK_FILESYSTEM are, or if a flag other than these two is given with FAN_MARK_FLUSH.
+/// Without FAN_MARK_FLUSH also if the mask is 0, has a bit that is no bit of a mask, has a
+/// permission event although the group is of class FAN_CLASS_NOTIF, or has an event that is only
+/// reported by a handle although the group reports none or the mark is on a mount. Never
+/// otherwise.
 #[tactic(auto, unfolding(crate::specs::MarkWords::is_mark_call))]
 pub fn mark_words(flags: u32, mask: u64, init: InitWords) -> Result<MarkWords, Errno>
     ensures words { IfOk result (λ words. words ≡ mark_words_of flags mask) }
@@ -56,7 +61,7 @@ pub fn mark_words(flags: u32, mask: u64, init: InitWords) -> Result<MarkWords, E
     })
 }
 
-// The word as a set of flags, where a call can be given them.
+// The word as a set of flags, if a call may have them.
 #[tactic(auto, unfolding(crate::specs::MarkWords::are_mark_flags))]
 fn checked_flags(flags: u32) -> Option<MarkFlags>
     ensures given { IfSome result (λ given. given.0 ≡ flags) }
@@ -70,7 +75,7 @@ fn checked_flags(flags: u32) -> Option<MarkFlags>
     }
 }
 
-// The word as a set of flags, where each of its bits is a flag.
+// The word as a set of flags, if it has no other bits.
 fn only_flags(flags: u32) -> Option<MarkFlags>
     ensures given { IfSome result (λ given. given.0 ≡ flags) }
     ensures found { is_some result ≡ has_only 32 mark_flags flags }
@@ -78,7 +83,7 @@ fn only_flags(flags: u32) -> Option<MarkFlags>
     MarkFlags::from_bits(flags)
 }
 
-// The mask, where the call can be given it: with FAN_MARK_FLUSH any, which then counts as none.
+// The mask, if the call may have it. FAN_MARK_FLUSH takes any mask, and counts it as 0.
 fn call_mask(mask: u64, given: MarkFlags, init: InitWords) -> Option<u32>
     ensures word { IfSome result (λ word. word ≡ (if occurs given.0 mark_flush then 0 else mask)) }
     ensures found { is_some result
@@ -91,7 +96,7 @@ fn call_mask(mask: u64, given: MarkFlags, init: InitWords) -> Option<u32>
 }
 
 impl MarkFlags {
-    // What they do.
+    // What is done.
     fn verb(self) -> Verb
         ensures { result ≡ verb_of self.0 }
     {
@@ -117,8 +122,8 @@ impl MarkFlags {
         }
     }
 
-    // Whether just one of them says what is done.
-    #[tactic(auto, unfolding(crate::specs::MarkWords::has_one))]
+    // Whether exactly one of them says what is done.
+    #[tactic(auto, unfolding(crate::specs::Words::has_one))]
     fn has_one_verb(self) -> bool
         ensures { result ≡ has_one verb_flags self.0 }
     {
@@ -128,21 +133,21 @@ impl MarkFlags {
         u32::from(add) + u32::from(remove) + u32::from(flush) == 1
     }
 
-    // Whether they put the mark both on a mount and on a filesystem.
+    // Whether the mark would be both on a mount and on a filesystem.
     fn has_both_kinds(self) -> bool
         ensures { result ≡ (occurs self.0 mark_mount && occurs self.0 mark_filesystem) }
     {
         self.has(MarkFlags::MOUNT) && self.has(MarkFlags::FILESYSTEM)
     }
 
-    // Whether there is no FAN_MARK_FLUSH, or no flag that may not stand beside it.
+    // Whether FAN_MARK_FLUSH is not given, or is given with a kind alone.
     fn may_flush(self) -> bool
         ensures { result ≡ (not (occurs self.0 mark_flush) || has_only 32 flush_flags self.0) }
     {
         !self.has(MarkFlags::FLUSH) || self.is_beside_flush()
     }
 
-    // Whether each may stand beside FAN_MARK_FLUSH.
+    // Whether each of them may be given with FAN_MARK_FLUSH.
     fn is_beside_flush(self) -> bool
         ensures { result ≡ has_only 32 flush_flags self.0 }
     {

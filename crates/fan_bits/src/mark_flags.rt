@@ -47,13 +47,15 @@ impl Flags for MarkFlags {
 }
 
 impl MarkFlags {
-    // Those that may stand beside FAN_MARK_FLUSH, and itself.
-    pub(crate) const BESIDE_FLUSH: MarkFlags = MarkFlags(0x190);
+    // FAN_MARK_FLUSH and the two that may be given with it.
+    pub(crate) const BESIDE_FLUSH: MarkFlags = MarkFlags(
+        MarkFlags::MOUNT.0 | MarkFlags::FLUSH.0 | MarkFlags::FILESYSTEM.0,
+    );
 }
 
 // A set of the bits of a mask: events, and the two that qualify them.
 #[derive(Clone, Copy, Debug, PartialEq, Eq)]
-pub(crate) struct MaskBits(u64);
+pub(crate) struct MaskBits(pub(crate) u64);
 
 bitflag_items! {
     impl MaskBits: u64 {
@@ -108,8 +110,30 @@ impl Flags for MaskBits {
 
 impl MaskBits {
     // The events that ask for permission.
-    pub(crate) const PERM_EVENTS: MaskBits = MaskBits(0x7_0000);
+    pub(crate) const PERM_EVENTS: MaskBits = MaskBits(
+        MaskBits::OPEN_PERM.0 | MaskBits::ACCESS_PERM.0 | MaskBits::OPEN_EXEC_PERM.0,
+    );
 
-    // The events that are reported by handles alone.
-    pub(crate) const HANDLE_EVENTS: MaskBits = MaskBits(0xfc4);
+    // The events that are only reported by handles.
+    pub(crate) const HANDLE_EVENTS: MaskBits = MaskBits(
+        MaskBits::ATTRIB.0
+            | MaskBits::MOVED_FROM.0
+            | MaskBits::MOVED_TO.0
+            | MaskBits::CREATE.0
+            | MaskBits::DELETE.0
+            | MaskBits::DELETE_SELF.0
+            | MaskBits::MOVE_SELF.0,
+    );
+
+    // The events that a mark on a directory reports of its entries with FAN_EVENT_ON_CHILD.
+    pub(crate) const CHILD_EVENTS: MaskBits = MaskBits(
+        MaskBits::ACCESS.0
+            | MaskBits::MODIFY.0
+            | MaskBits::ATTRIB.0
+            | MaskBits::CLOSE_WRITE.0
+            | MaskBits::CLOSE_NOWRITE.0
+            | MaskBits::OPEN.0
+            | MaskBits::OPEN_EXEC.0
+            | MaskBits::PERM_EVENTS.0,
+    );
 }

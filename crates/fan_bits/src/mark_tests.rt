@@ -10,7 +10,8 @@ fn words(flags: u32, mask: u64, init: u32) -> Option<MarkWords> {
 // The flags of fanotify_mark(2), from FAN_MARK_ADD to FAN_MARK_FILESYSTEM.
 const FLAGS: [u32; 9] = [0x1, 0x2, 0x4, 0x8, 0x10, 0x20, 0x40, 0x80, 0x100];
 
-// For each flag, and beside it each flag, whether the two are taken: y or n. A flag beside itself is alone.
+// For each flag, and beside it each flag, whether the two are taken: y or n. A flag beside itself
+// is alone.
 const PAIRS: [&[u8; 9]; 9] = [
     b"ynyyyyyny",
     b"nyyyyyyny",

@@ -1,14 +1,14 @@
 // The mask of a call of fanotify_mark(2): which bits it may have.
 ghost use Rattle.std.specs.Prelude.{◌≡◌, ◌&&◌, ◌||◌, not, IfSome, is_some};
-ghost use Rattle.fan_bits.specs.MarkWords.{has_any, has_only, handle_events, is_mask, is_notif, mark_mount, mask_bits, perm_events};
-ghost use Rattle.fan_bits.specs.Words.{class_of, has_handles, occurs};
+ghost use Rattle.fan_bits.specs.MarkWords.{handle_events, is_mask, is_notif, mark_mount, mask_bits, perm_events};
+ghost use Rattle.fan_bits.specs.Words.{class_of, has_any, has_handles, has_only, occurs};
 
 use super::class::Class;
 use super::init::InitWords;
 use super::mark_flags::{MarkFlags, MaskBits};
 use bitflags::Flags;
 
-// The mask as a word of 32 bits, where a call with these flags can be given it.
+// The mask as a word of 32 bits, if a call with these flags may have it.
 #[tactic(auto, unfolding(crate::specs::MarkWords::is_mask))]
 pub(crate) fn checked_mask(mask: u64, given: MarkFlags, init: InitWords) -> Option<u32>
     ensures word { IfSome result (λ word. word ≡ mask) }
@@ -21,7 +21,7 @@ pub(crate) fn checked_mask(mask: u64, given: MarkFlags, init: InitWords) -> Opti
     Some(mask as u32)
 }
 
-// The mask as a set of bits, where each of its bits is one.
+// The mask as a set of named bits, if it has no others.
 fn only_bits(mask: u64) -> Option<MaskBits>
     ensures given { IfSome result (λ bits. bits.0 ≡ mask) }
     ensures found { is_some result ≡ has_only 64 mask_bits mask }
@@ -29,14 +29,14 @@ fn only_bits(mask: u64) -> Option<MaskBits>
     MaskBits::from_bits(mask)
 }
 
-// Whether there is a permission event for a group that is never asked.
+// Whether the mask has a permission event although the group is never asked.
 fn is_unasked(bits: MaskBits, init: InitWords) -> bool
     ensures { result ≡ (has_any perm_events bits.0 && is_notif (class_of init.bits)) }
 {
     has_perm_event(bits) && matches!(init.class(), Class::Notif)
 }
 
-// Whether there is an event by handles where none are reported.
+// Whether the mask has an event that is reported by a handle although none can be.
 fn lacks_handles(bits: MaskBits, given: MarkFlags, init: InitWords) -> bool
     ensures { result ≡ (has_any handle_events bits.0
         && (not (has_handles init.bits) || occurs given.0 mark_mount)) }
@@ -44,14 +44,14 @@ fn lacks_handles(bits: MaskBits, given: MarkFlags, init: InitWords) -> bool
     has_handle_event(bits) && (!init.has_handles() || given.has(MarkFlags::MOUNT))
 }
 
-// Whether there is a permission event.
+// Whether the mask has a permission event.
 fn has_perm_event(bits: MaskBits) -> bool
     ensures { result ≡ has_any perm_events bits.0 }
 {
     bits.intersects(MaskBits::PERM_EVENTS)
 }
 
-// Whether there is an event that is reported by handles alone.
+// Whether the mask has an event that is only reported by a handle.
 fn has_handle_event(bits: MaskBits) -> bool
     ensures { result ≡ has_any handle_events bits.0 }
 {

@@ -1,4 +1,4 @@
-// Where something happens, and what a group wants of it.
+// A place, what happens there, and what a group wants of it.
 ghost use Rattle.std.specs.Prelude.{◌≡◌};
 ghost use Rattle.fan_bits.specs.Interest.{interest_order};
 ghost use Rattle.fan_bits.specs.Places.{object_of};
@@ -10,13 +10,13 @@ use super::mark::Order;
 /// What a path reaches: the numbers of objects, each from 1 to 65,535.
 #[derive(Clone, Copy, Debug, PartialEq, Eq)]
 pub struct Place {
-    /// The mount through which it is reached.
+    /// The mount through which the path goes.
     pub mount: u32,
     /// The filesystem of the inode.
     pub fs: u32,
     /// The file or directory.
     pub inode: u32,
-    /// Its directory; a file always has one, and the root of a filesystem has none.
+    /// The directory that has it. A file always has one; the root of a filesystem has none.
     pub parent: Option<u32>,
     /// Whether it is a directory.
     pub dir: bool,
@@ -25,21 +25,24 @@ pub struct Place {
 /// Something that happens at a place.
 #[derive(Clone, Copy, Debug, PartialEq, Eq)]
 pub struct Happening {
-    /// Where. For an event of a directory entry it is the directory.
+    /// The place. For an event of a directory entry it is that of the directory.
     pub place: Place,
-    /// The events: FAN_OPEN and the like.
+    /// The events, as bits of fanotify_mark(2): FAN_OPEN and others.
     pub bits: u32,
     /// Whether the object, or the entry, is a directory.
     pub ondir: bool,
-    /// Whether it is an event of a directory entry.
+    /// Whether it is an event of a directory entry, such as FAN_CREATE.
     pub entry: bool,
 }
 
 /// The events of a happening that one group wants.
 #[derive(Clone, Copy, Debug, PartialEq, Eq)]
 pub struct Interest {
+    /// The group, from 1.
     pub group: u32,
+    /// The class of the group.
     pub class: Class,
+    /// The events that it wants, as bits of fanotify_mark(2).
     pub bits: u32,
 }
 
@@ -57,7 +60,7 @@ impl Place {
 }
 
 impl Interest {
-    /// The place of its group.
+    /// The position of its group in the order of asks and tells.
     pub fn order(&self) -> Order
         ensures { result.0 ≡ interest_order self.now }
     {

@@ -1,4 +1,4 @@
-// Flag words of groups from fanotify_init(2), with what is made of them.
+// Flag words of groups from fanotify_init(2), with what is made of them; and outcomes.
 use super::*;
 
 #[test]
@@ -56,5 +56,25 @@ fn flags_are_told_apart(rt: HostRuntime) {
             words.reports_dir_fid(),
         );
         assert_eq!(rt; found, wanted, "at {flags:x}");
+    }
+}
+
+#[test]
+fn outcomes_end_accesses_and_runs(rt: HostRuntime) {
+    let cases = [
+        (StepOutcome::Asked(1), false, false),
+        (StepOutcome::Blocked(1), false, true),
+        (StepOutcome::Allowed(1), false, false),
+        (StepOutcome::Denied(1), true, true),
+        (StepOutcome::Closed(1), false, false),
+        (StepOutcome::Full(1), false, false),
+        (StepOutcome::Queued(1), false, false),
+        (StepOutcome::Merged(1), false, false),
+        (StepOutcome::Overflow(1), false, false),
+        (StepOutcome::Done, true, true),
+    ];
+    for (outcome, access, run) in cases {
+        assert_eq!(rt; outcome.ends_access(), access, "at {outcome:?}");
+        assert_eq!(rt; outcome.ends_run(), run, "at {outcome:?}");
     }
 }

@@ -1,64 +1,29 @@
 -- The marks that matter at a place are those with which its objects answer.
-use Rattle.std.proofs.Common.{◌≡◌, ◌≢◌, ◌∙◌, ℕ, ◌<◌, ◌≤◌, ◌==◌, ◌&&◌, ◌||◌, Bool, true, false, not, cond, List, [], ◌∷◌, Option, Some, None, get_or, suc, refl, sym, ap, arith, inl, inr, subst, ⊎_elim, eqb-true, eq-eqb}
+use Rattle.std.proofs.Common.{◌≡◌, ◌∙◌, ℕ, ◌<◌, ◌≤◌, ◌==◌, ◌&&◌, ◌||◌, Bool, true, false, List, [], ◌∷◌, Option, Some, None, get_or, suc, refl, sym, ap, arith, inl, inr, subst, ⊎_elim, eqb-true, eq-eqb}
 use Rattle.std.specs.Prelude.{All, nat_lt, if◌then◌else◌, IfSome, ◌⊎◌}
 use Rattle.std.specs.List.{Contains, fold, list_any}
-use Rattle.std.proofs.lemmas.Bool.{false≢true}
+use Rattle.std.specs.Option.{option_to_list}
+use Rattle.std.proofs.lemmas.Bool.{and_parts, false≢true, or_cases}
 use Rattle.std.proofs.lemmas.Bool.Decides.{nat_tests}
-use Rattle.std.proofs.lemmas.List.Elements.{All-cons, All-contains, All-contains_itself, All-filter, All-map, All-nil, filter_passes}
+use Rattle.std.proofs.lemmas.List.Elements.{All-cons, All-contains, All-contains_itself, All-filter, All-map, All-nil}
+use Rattle.std.proofs.lemmas.Option.{IfSome_then}
 use Rattle.std.proofs.lemmas.List.Folds.{Any-from_list_any, list_any-from_Any}
 use Rattle.fan_bits.specs.declared.mark.Mark.{Mark}
 use Rattle.fan_bits.specs.declared.place.Happening.{Happening}
 use Rattle.fan_bits.specs.declared.place.Place.{Place}
-use Rattle.fan_bits.specs.Interest.{child_events, concerns, ignores, is_on_place, is_parent, reaches, wanted, wants}
-use Rattle.fan_bits.specs.MarkWords.{event_on_child, is_among, ondir}
-use Rattle.fan_bits.specs.Words.{occurs}
-use Rattle.fan_bits.specs.Marks.{IsMark, IsMarkList, Rises, is_before, next_on, on, order_of}
+use Rattle.fan_bits.specs.Interest.{concerns, ignores, is_on_place, near, wanted, wants}
+use Rattle.fan_bits.specs.Places.{is_parent}
+use Rattle.fan_bits.specs.Marks.{IsMarkList, Rises, next_on, on, order_of}
+use Rattle.fan_bits.proofs.InterestLaws.{concerns_near, ignores_near}
+use Rattle.fan_bits.proofs.InterestLemmas.{bits_that_agree}
+use Rattle.fan_bits.proofs.Interests.{one_order}
+use Rattle.fan_lists.proofs.Finds.{IfSome-find}
+use Rattle.fan_lists.proofs.Pairs.{Contains-filter, Contains-first, Contains-later, Contains-map}
+use Rattle.fan_bits.proofs.MarkLists.{rises-on}
 use Rattle.fan_bits.proofs.Masks.{same_tests}
-use Rattle.fan_bits.proofs.InterestLemmas.{bits_that_agree, bits_that_some, same_group}
-use Rattle.fan_decide.specs.Answers.{above, answers, earlier, first_of, objects}
+use Rattle.fan_bits.proofs.Rising.{find_upto}
+use Rattle.fan_decide.specs.Answers.{answers, earlier, first_of, objects}
 use Rattle.fan_decide.specs.Words.{answer_concerns, answer_ignores, answers_want, wanted_by}
-use Rattle.fan_decide.proofs.Rising.{RisesBy, Contains-filter, Contains-first, Contains-later, Contains-map, find_passes, find_upto}
-
--- both of two tests that pass together pass
-both_pass : (a b : Bool) → (a && b) ≡ true → (a ≡ true) × (b ≡ true)
-both_pass true b passes = (refl, passes)
-both_pass false b passes = absurd cc
-
--- tests that pass pass together
-pass_both : (a b : Bool) → a ≡ true → b ≡ true → (a && b) ≡ true
-pass_both a b left right = rw (left, right) refl
-
--- one of two tests of which one passes passes
-one_passes : (a b : Bool) → (a || b) ≡ true → (a ≡ true) ⊎ (b ≡ true)
-one_passes true b passes = inl refl
-one_passes false b passes = inr passes
-
--- ---- the marks on an object
-
--- of two marks on one object the one that stands before has the lesser order
-lesser : (a b order other : ℕ) → a ≡ b → (nat_lt a b || (a == b && nat_lt order other)) ≡ true → order < other
-lesser a b order other same before = grind (arith, nat_tests)
-
-behind-on : (object : ℕ) (mark : Mark) (more : List Mark) → mark.object ≡ object
-    → All (λ other. is_before other.object (order_of other) mark ≡ true) more
-    → All (λ other. order_of mark < order_of other) (on object more)
-behind-on object mark more here before = λ k d within.
-    let other = get_or (on object more) k d in
-    let kept : (other.object == object) ≡ true = filter_passes (λ m. m.object == object) more k d within in
-    let first : is_before other.object (order_of other) mark ≡ true =
-    All-filter (λ m. m.object == object)
-    (λ m. is_before m.object (order_of m) mark ≡ true) more before k d within in
-    lesser mark.object other.object (order_of mark) (order_of other) (here ∙ sym (eqb-true _ _ kept)) first
-
--- the marks on an object rise in the order of groups
-rises-on : (object : ℕ) (marks : List Mark) → Rises marks → RisesBy order_of (on object marks)
-rises-on object [] rises = tt
-rises-on object (mark ∷ more) rises =
-    elim (mark.object == object) as (λ here. (mark.object == object) ≡ here
-    → RisesBy order_of (cond here (mark ∷ on object more) (on object more))) [
-      | true ↦ λ here. (behind-on object mark more (eqb-true _ _ here) rises.0, rises-on object more rises.1)
-      | false ↦ λ other. rises-on object more rises.1
-    ] refl
 
 -- ---- the first of some answers
 
@@ -137,72 +102,44 @@ first_of-Some given mark is =
     let found = fold_first None given mark is in
     record { among = ⊎_elim (λ none. absurd cc) (λ has. has) found.0; least = found.2 }
 
--- where none is found, no answer has a mark
+-- if none is found, no answer has a mark
 pub first_of-None : (given : List (Option Mark)) → first_of given ≡ None → (mark : Mark)
     → Contains given (Some mark) → ⊥
 first_of-None given none mark has =
     let is : Some mark ≡ None =
     All-contains (λ a. a ≡ None) given (Some mark) (fold_none None given none).1 has in cc
 
--- ---- the objects that a mark reaches a place by
+-- ---- the objects of a place
 
 parent_above : (number : ℕ) (parent : Option ℕ) → is_parent number parent ≡ true
-    → Contains (above parent) number
+    → Contains (option_to_list parent) number
 parent_above number None is = absurd cc
 parent_above number (Some parent) is = (0, omega arith, sym (eqb-true _ _ is))
 
-place_object : (mark : Mark) (place : Place) → is_on_place mark place ≡ true
+-- a mark that is near a place is on one of its objects
+pub near_object : (mark : Mark) (place : Place) → near place mark ≡ true
     → Contains (objects place) mark.object
-place_object mark place is =
-    ⊎_elim (λ rest. ⊎_elim (λ inode. (0, omega arith, sym (eqb-true _ _ inode)))
-    (λ mount. (1, omega arith, sym (eqb-true _ _ mount)))
-    (one_passes (mark.object == place.inode) (mark.object == place.mount) rest))
-    (λ fs. (2, omega arith, sym (eqb-true _ _ fs)))
-    (one_passes (mark.object == place.inode || mark.object == place.mount) (mark.object == place.fs) is)
-
--- a mark that reaches a place is on one of its objects
-reaches_object : (mark : Mark) (place : Place) (event : ℕ) → reaches mark place event ≡ true
-    → Contains (objects place) mark.object
-reaches_object mark place event reached =
-    let on_parent = is_parent mark.object place.parent && occurs mark.mask event_on_child in
-    ⊎_elim (λ here. place_object mark place here)
-    (λ rest.
-    let both = both_pass on_parent (is_among event child_events) rest in
-    let parent = both_pass (is_parent mark.object place.parent) (occurs mark.mask event_on_child) both.0 in
-    let is = parent_above mark.object place.parent parent.0 in
+near_object mark place is_near =
+    let on_inode = mark.object == place.inode in
+    let on_mount = mark.object == place.mount in
+    let on_fs = mark.object == place.fs in
+    ⊎_elim (λ here. ⊎_elim (λ two. ⊎_elim (λ inode. (0, omega arith, sym (eqb-true _ _ inode)))
+    (λ mount. (1, omega arith, sym (eqb-true _ _ mount))) (or_cases on_inode on_mount two))
+    (λ fs. (2, omega arith, sym (eqb-true _ _ fs))) (or_cases (on_inode || on_mount) on_fs here))
+    (λ parent. let is = parent_above mark.object place.parent parent in
     (suc (suc (suc is.0)), omega (arith, is.1), is.2))
-    (one_passes (is_on_place mark place) (on_parent && is_among event child_events) reached)
-
-concerns_object : (mark : Mark) (happening : Happening) (event : ℕ) → concerns mark happening event ≡ true
-    → Contains (objects happening.place) mark.object
-concerns_object mark happening event concerned =
-    let asked = occurs mark.mask event && (not happening.ondir || occurs mark.mask ondir) in
-    reaches_object mark happening.place event
-    (both_pass asked (reaches mark happening.place event) concerned).1
-
-ignores_object : (mark : Mark) (happening : Happening) (event : ℕ) → ignores mark happening event ≡ true
-    → Contains (objects happening.place) mark.object
-ignores_object mark happening event ignored =
-    reaches_object mark happening.place event
-    (both_pass (occurs mark.ignored event) (reaches mark happening.place event) ignored).1
+    (or_cases (is_on_place mark place) (is_parent mark.object place.parent) is_near)
 
 -- ---- what the objects answer of a list of marks
 
+-- an answer is a mark of the list, and after the order
 next_on_is : (marks : List Mark) (after object : ℕ)
     → IfSome (next_on marks object after) (λ mark. Contains marks mark × (after < order_of mark))
 next_on_is marks after object =
-    elim (next_on marks object after) as (λ answer. next_on marks object after ≡ answer
-    → IfSome answer (λ mark. Contains marks mark × (after < order_of mark))) [
-      | None ↦ λ none. tt
-      | Some mark ↦ λ is.
-          let found = find_passes (λ mark. nat_lt after (order_of mark)) mark (on object marks) is in
-          let kept : All (Contains marks) (on object marks) =
-          All-filter (λ mark. mark.object == object) (Contains marks) marks (All-contains_itself marks) in (
-            All-contains (Contains marks) (on object marks) mark kept found.0,
-            grind
-                (arith, nat_tests, found.1),
-          )
-    ] refl
+    IfSome_then (next_on marks object after)
+    (IfSome-find (λ mark. nat_lt after (order_of mark)) (Contains marks) (on object marks)
+    (All-filter (λ mark. mark.object == object) (Contains marks) marks (All-contains_itself marks)))
+    (λ mark found. (found.0, grind (arith, nat_tests, found.1)))
 
 -- each mark of an answer is one of the list, and behind the order
 pub answer_is : (marks : List Mark) (asked : List ℕ) (after : ℕ) (mark : Mark)
@@ -230,27 +167,6 @@ answer_upto marks asked after mark rises has asks behind =
     Contains-map (λ object. next_on marks object after) mark.object asked asks in
     (found.0, subst (Contains (answers marks asked after)) found.1 answer, found.2)
 
--- marks of one group have one place in the order of groups
-pub same_order : (marks : List Mark) → IsMarkList marks → (mark other : Mark) → Contains marks mark
-    → Contains marks other
-    → mark.group ≡ other.group → order_of mark ≡ order_of other
-same_order marks is_list mark other has others same =
-    let P : Mark → Type 0 = λ other. mark.group ≡ other.group → mark.class ≡ other.class in
-    let here : All P marks =
-    All-contains (λ mark. All (λ other. mark.group ≡ other.group → mark.class ≡ other.class) marks) marks mark
-    is_list.classes has in
-    let class = All-contains P marks other here others same in
-    rw (class, same) refl
-
--- marks of one place in the order of groups have one group and class
-pub order_group : (marks : List Mark) → IsMarkList marks → (mark other : Mark) → Contains marks mark
-    → Contains marks other
-    → order_of mark ≡ order_of other → (mark.class ≡ other.class) × (mark.group ≡ other.group)
-order_group marks is_list mark other has others same =
-    let small = (All-contains IsMark marks mark is_list.each has).group.1 in
-    let less = (All-contains IsMark marks other is_list.each others).group.1 in
-    same_group mark.class other.class mark.group other.group small less same
-
 module _ (marks : List Mark) (is_list : IsMarkList marks) (asked : List ℕ) (after : ℕ) where
   abbrev given : List (Option Mark)
   given = answers marks asked after
@@ -269,7 +185,7 @@ module _ (marks : List Mark) (is_list : IsMarkList marks) (asked : List ℕ) (af
       → Contains asked mark.object → mark.group ≡ first.group → Contains given (Some mark)
   group_answers first is_first mark has asks same =
       let one = answer_is marks asked after first is_first.among in
-      let order : order_of mark ≡ order_of first = same_order marks is_list mark first has one.0 same in
+      let order : order_of mark ≡ order_of first = one_order marks is_list mark first has one.0 same in
       let found = answer_upto marks asked after mark is_list.rises has asks (omega (arith, one.1, order)) in
       let least : order_of first ≤ order_of found.0 =
       All-contains (AtLeast (order_of first)) given (Some found.0) is_first.least found.1 in
@@ -286,7 +202,7 @@ module _ (marks : List Mark) (is_list : IsMarkList marks) (asked : List ℕ) (af
       let there = (answer_is marks asked after mark has).0 in
       list_any-from_Any by_mark marks (there.0, mark, there.1, there.2, sym (at_some mark) ∙ passes)
 
-  -- so a test that only marks on these objects pass, passes at one of its marks where it does at an answer
+  -- so a test that only marks on these objects pass, passes at one of its marks if it does at an answer
   same_any : (first : Mark) → IsFirst given first → (test : Mark → Bool) (by_answer : Option Mark → Bool)
       → by_answer None ≡ false →
       ((mark : Mark) → by_answer (Some mark) ≡ (mark.group == first.group && test mark))
@@ -301,29 +217,10 @@ module _ (marks : List Mark) (is_list : IsMarkList marks) (asked : List ℕ) (af
       (λ passes.
       let found = Any-from_list_any by_mark marks passes in
       let mark = found.1 in
-      let both = both_pass (mark.group == first.group) (test mark) found.4 in
+      let both = and_parts (mark.group == first.group) (test mark) found.4 in
       let answer = group_answers first is_first mark (found.0, found.2, found.3) (asks mark both.1)
       (eqb-true _ _ both.0) in
       list_any-from_Any by_answer given (answer.0, Some mark, answer.1, answer.2, at_some mark ∙ found.4))
-
--- a group that wants something has a mark on an object of the place
-pub wanting_mark : (marks : List Mark) (happening : Happening) (group : ℕ) → wanted marks group happening ≢ 0
-    → (mark : Mark) × Contains marks mark × (mark.group ≡ group)
-    × Contains (objects happening.place) mark.object
-unfolding wanted
-wanting_mark marks happening group wants_some =
-    let event = bits_that_some 32 (wants marks group happening) wants_some in
-    let by_mark = λ (mark : Mark). mark.group == group && concerns mark happening event.0 in
-    let parts = both_pass (occurs happening.bits event.0 && list_any by_mark marks) _ event.2 in
-    let concerned = both_pass (occurs happening.bits event.0) (list_any by_mark marks) parts.0 in
-    let found = Any-from_list_any by_mark marks concerned.1 in
-    let both = both_pass (found.1.group == group) (concerns found.1 happening event.0) found.4 in (
-      found.1,
-      (found.0, found.2, found.3),
-      eqb-true _ _ both.0,
-      concerns_object found.1 happening event.0
-          both.1,
-    )
 
 module _ (marks : List Mark) (is_list : IsMarkList marks) (happening : Happening) (after : ℕ) where
   abbrev place_answers : List (Option Mark)
@@ -339,8 +236,10 @@ module _ (marks : List Mark) (is_list : IsMarkList marks) (happening : Happening
       (λ event below.
       let concerned = same_any marks is_list (objects happening.place) after first is_first
       (λ mark. concerns mark happening event) (answer_concerns first.group happening event)
-      refl (λ mark. refl) (λ mark passes. concerns_object mark happening event passes) in
+      refl (λ mark. refl)
+      (λ mark passes. near_object mark happening.place (concerns_near mark happening event passes)) in
       let ignored = same_any marks is_list (objects happening.place) after first is_first
       (λ mark. ignores mark happening event) (answer_ignores first.group happening event)
-      refl (λ mark. refl) (λ mark passes. ignores_object mark happening event passes) in
+      refl (λ mark. refl)
+      (λ mark passes. near_object mark happening.place (ignores_near mark happening event passes)) in
       rw (concerned, ignored) refl)

@@ -1,5 +1,5 @@
 -- The next interest by the first group behind an order that has a mark on an object of the place.
-use Rattle.std.proofs.Common.{◌≡◌, ◌≢◌, ◌∙◌, ℕ, ◌*◌, ◌^◌, ◌<◌, ◌≤◌, List, Option, Some, None, get_or, refl, sym, ap, arith, ⊎_elim}
+use Rattle.std.proofs.Common.{◌≡◌, ◌≢◌, ◌∙◌, ℕ, ◌*◌, ◌^◌, ◌<◌, ◌≤◌, Bool, true, List, Option, Some, None, get_or, refl, sym, ap, arith, ⊎_elim}
 use Rattle.std.specs.Prelude.{nat_lt}
 use Rattle.std.specs.List.{Contains}
 use Rattle.std.proofs.lemmas.Bool.{cases_lt}
@@ -13,9 +13,11 @@ use Rattle.fan_bits.specs.Marks.{IsMark, IsMarkList, order_of}
 use Rattle.fan_bits.proofs.InterestLemmas.{order_number-lt}
 use Rattle.fan_decide.specs.Answers.{answers, first_of, interest_by, next_marked, objects}
 use Rattle.fan_decide.specs.Words.{wanted_by}
-use Rattle.fan_decide.proofs.AnswerLemmas.{IsFirst, answer_is, answer_upto, first_before, first_of-None, first_of-Some, order_group, same_order, same_wanted, wanting_mark}
-use Rattle.fan_decide.proofs.Interests.{IsWish, has-interests, rises-interests, wishes-interests}
-use Rattle.fan_decide.proofs.Rising.{find_behind, find_none, find_passes, find_upto}
+use Rattle.fan_bits.proofs.InterestLaws.{wanting_mark}
+use Rattle.fan_bits.proofs.Interests.{IsWish, interest_there, one_order, order_group, rises-interests, wishes-interests}
+use Rattle.fan_lists.proofs.Finds.{Contains-find, find_passes}
+use Rattle.fan_bits.proofs.Rising.{find_behind, find_none, find_upto}
+use Rattle.fan_decide.proofs.AnswerLemmas.{IsFirst, answer_is, answer_upto, first_before, first_of-None, first_of-Some, near_object, same_wanted}
 
 -- no interest comes of no mark
 interest_by-none : (given : List (Option Mark)) (happening : Happening) (answer : Option Mark)
@@ -76,8 +78,12 @@ module _ (marks : List Mark) (is_list : IsMarkList marks) (happening : Happening
       × (order_of mark ≡ interest_order interest)
   wish_mark interest wish behind =
       let found = wanting_mark marks happening wish.mark.group wish.some in
-      let order = same_order marks is_list found.0 wish.mark found.1 wish.among found.2 in
-      (found.0, found.1, found.3, order ∙ sym (ap interest_order wish.whole))
+      let order = one_order marks is_list found.0 wish.mark found.1 wish.among found.2 in (
+        found.0,
+        found.1,
+        near_object found.0 happening.place found.3,
+        order ∙ sym (ap interest_order wish.whole),
+      )
 
   -- so the first mark has its order or a lesser one
   first_least : (first : Mark) → IsFirst given first → (interest : Interest) → IsWish marks happening interest
@@ -97,7 +103,7 @@ module _ (marks : List Mark) (is_list : IsMarkList marks) (happening : Happening
   own_group first has interest wish same =
       order_group marks is_list wish.mark first wish.among has (sym (ap interest_order wish.whole) ∙ same)
 
-  -- where there is no mark, no group behind the order wants anything
+  -- if there is no mark, no group behind the order wants anything
   pub next_interest-none : next_marked marks happening after ≡ None → next_interest marks happening after
       ≡ None
   next_interest-none is =
@@ -112,32 +118,29 @@ module _ (marks : List Mark) (is_list : IsMarkList marks) (happening : Happening
       absurd (first_of-None given none answer.0 answer.1))
       (λ within. within) (cases_lt after (interest_order interest)))
 
-  -- where the first group with a mark wants something, it is the next one
+  -- if the first group with a mark wants something, it is the next one
   pub next_interest-some : (interest : Interest) → next_marked marks happening after ≡ Some interest
       → interest.bits ≢ 0 → next_interest marks happening after ≡ Some interest
   next_interest-some interest is some =
       let marked = is_marked interest is in
       let wants : wanted marks marked.first.group happening ≢ 0 =
       λ none. some (ap (λ i. i.bits) marked.whole ∙ none) in
-      let own = has-interests marks happening marked.first marked.among wants in
-      let wish = All-contains (IsWish marks happening) (interests marks happening) own.0
-      (wishes-interests marks happening) own.1 in
-      let group = own_group marked.first marked.among own.0 wish own.2 in
-      let whole : own.0 ≡ interest = wish.whole ∙ rw (group.0, group.1) (sym marked.whole) in
-      let next = find_upto interest_order after own.0 (interests marks happening)
-      (rises-interests marks happening) own.1
-      (omega (arith, marked.behind, own.2)) in
-      ⊎_elim (λ same. next.1 ∙ ap (λ i. Some i) (same ∙ whole))
+      let own = interest_of marks happening marked.first in
+      let next = find_upto interest_order after own (interests marks happening)
+      (rises-interests marks happening)
+      (interest_there marks is_list happening marked.first marked.among wants)
+      marked.behind in
+      ⊎_elim (λ same. next.1 ∙ ap (λ i. Some i) (same ∙ sym marked.whole))
       (λ less.
-      let passes = find_passes (λ i. nat_lt after (interest_order i)) next.0
-      (interests marks happening) next.1 in
+      let test : Interest → Bool = λ i. nat_lt after (interest_order i) in
+      let passes : test next.0 ≡ true = find_passes test (interests marks happening) next.0 next.1 in
       let lesser = All-contains (IsWish marks happening) (interests marks happening) next.0
-      (wishes-interests marks happening) passes.0 in
-      let behind : after < interest_order next.0 = grind (arith, nat_tests, passes.1) in
-      absurd (omega (arith, first_least marked.first marked.is_first next.0 lesser behind, less, own.2)))
+      (wishes-interests marks happening) (Contains-find test (interests marks happening) next.0 next.1) in
+      let behind : after < interest_order next.0 = grind (arith, nat_tests) in
+      absurd (omega (arith, first_least marked.first marked.is_first next.0 lesser behind, less)))
       next.2
 
-  -- where it wants nothing, the next one is behind its order
+  -- if it wants nothing, the next one is behind its order
   pub next_interest-on : (interest : Interest) → next_marked marks happening after ≡ Some interest
       → interest.bits ≡ 0 → next_interest marks happening after
       ≡ next_interest marks happening (interest_order interest)

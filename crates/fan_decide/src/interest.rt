@@ -1,4 +1,5 @@
-// The next group that wants an event of a happening.
+// The next group that wants an event of a happening, found by asking the objects of its place in
+// turn.
 ghost use Rattle.std.specs.Prelude.{◌≡◌, List};
 ghost use Rattle.fan_bits.specs.declared.mark.Mark.{Mark};
 ghost use Rattle.fan_bits.specs.Interest.{next_interest};
@@ -9,8 +10,9 @@ use super::words::wanted_events;
 use arrayvec::ArrayVec;
 use fan_bits::{Connectors, Happening, Interest, Mark, Order, Place};
 
-/// The first group behind `after`, in the order of asks and tells, that wants an event of a
-/// happening, and just the events that it wants; None exactly where there is none. Takes no memory.
+/// The first group after `after`, in the order of asks and tells, that wants an event of a
+/// happening, and exactly the events that it wants; None if there is no such group. Allocates
+/// nothing.
 pub fn next_interest<C: Connectors>(
     connectors: &mut C,
     happening: &Happening,
@@ -33,8 +35,8 @@ pub fn next_interest<C: Connectors>(
     }
 }
 
-// The first group behind `after` that has a mark on an object of the place, and what it wants,
-// which may be nothing.
+// The first group after `after` that has a mark on an object of the place, and what it wants, which
+// may be nothing.
 fn next_marked<C: Connectors>(
     connectors: &mut C,
     happening: &Happening,
@@ -56,7 +58,7 @@ fn next_marked<C: Connectors>(
     })
 }
 
-// The next mark behind `after` on each object whose marks may reach a place.
+// The next mark after `after` on each object of a place: its inode, mount, filesystem and parent.
 fn next_marks<C: Connectors>(
     connectors: &mut C,
     place: &Place,
@@ -79,14 +81,14 @@ fn next_marks<C: Connectors>(
     found
 }
 
-// The mark with the least order among some answers.
+// The first mark among the answers, by the order of its group.
 fn first_of(answers: &[Option<Mark>]) -> Option<Mark>
     ensures { result ≡ first_of answers.now }
 {
     answers.iter().copied().fold(None, earlier)
 }
 
-// Of two answers the one with the lesser order.
+// The earlier one of two answers, by the order of its group.
 fn earlier(answer: Option<Mark>, other: Option<Mark>) -> Option<Mark>
     ensures { result ≡ earlier answer other }
 {

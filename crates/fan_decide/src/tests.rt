@@ -4,22 +4,17 @@ ghost use Rattle.fan_bits.specs.Marks.{IsMark, IsMarkList, is_before, next_on, o
 ghost use Rattle.fan_bits.specs.Places.{IsPlace};
 
 use super::*;
-use fan_bits::{Class, Connectors, Happening, Kind, Mark, Order, Place};
+use fan_bits::{
+    Class, Connectors, FAN_EVENT_ON_CHILD as EVENT_ON_CHILD, FAN_ONDIR as ONDIR, FAN_OPEN as OPEN,
+    FAN_OPEN_PERM as OPEN_PERM, Happening, Kind, Mark, Order, Place,
+};
 use std::alloc::{AllocError, Global};
 use std::test::Fail;
 
-// The events and qualifiers of fanotify_mark(2).
+// FAN_ACCESS and FAN_DELETE_SELF of fanotify_mark(2).
 const ACCESS: u32 = 0x1;
 
-const OPEN: u32 = 0x20;
-
 const DELETE_SELF: u32 = 0x400;
-
-const OPEN_PERM: u32 = 0x1_0000;
-
-const EVENT_ON_CHILD: u32 = 0x0800_0000;
-
-const ONDIR: u32 = 0x4000_0000;
 
 // A filesystem and two mounts of it; a directory on it, with a directory, with a file.
 const FS: u32 = 1;
@@ -34,7 +29,7 @@ const DIRECTORY: u32 = 5;
 
 const FILE: u32 = 6;
 
-// Marks in their order, which are searched from the front.
+// Marks in their order, searched from the front.
 #[derive(Drop)]
 struct MarkList {
     marks: Vec<Mark>,
@@ -50,7 +45,7 @@ impl Connectors for MarkList {
     }
 }
 
-// The mark on an object with the least order behind one.
+// The mark on an object with the least order after `after`.
 fn find_next(marks: &[Mark], object: u32, after: Order) -> Option<Mark>
     ensures { result ≡ next_on marks.now object after.0 }
 {
@@ -61,7 +56,7 @@ fn find_next(marks: &[Mark], object: u32, after: Order) -> Option<Mark>
         .find(|mark| mark.order() > after)
 }
 
-// The marks, without those that may not stand behind the ones before them.
+// The marks, without those that may not follow the ones before them.
 fn listed(alloc: Global, marks: &[Mark]) -> Result<MarkList, AllocError>
     ensures { IfOk result (λ list. IsMarkList list.marks.items) }
 {
@@ -75,7 +70,7 @@ fn listed(alloc: Global, marks: &[Mark]) -> Result<MarkList, AllocError>
 }
 
 impl MarkList {
-    // Adds a mark behind the others, where it may stand there.
+    // Adds a mark at the end, if it may be there.
     fn add(&mut self, mark: Mark) -> Result<(), AllocError>
         requires { IsMarkList self.old.marks.items }
         ensures { OnOk result (IsMarkList self.new.marks.items) }
@@ -98,7 +93,7 @@ fn may_stand(mark: Mark) -> bool
     mark.mask & !(ONDIR | EVENT_ON_CHILD) != 0 || mark.ignored != 0
 }
 
-// Whether a mark may stand behind others.
+// Whether a mark may follow others.
 fn may_follow(marks: &[Mark], mark: Mark) -> bool
     ensures { IsTrue result → All (λ other. (is_before mark.object (order_of mark) other ≡ true)
         × (other.group ≡ mark.group → other.class ≡ mark.class)) marks.now }
@@ -106,7 +101,7 @@ fn may_follow(marks: &[Mark], mark: Mark) -> bool
     marks.iter().all(|other| may_precede(*other, mark))
 }
 
-// Whether a mark stands before another, and has its class if it has its group.
+// Whether a mark comes before another, and has its class if it has its group.
 fn may_precede(mark: Mark, other: Mark) -> bool
     ensures { IsTrue result → (is_before other.object (order_of other) mark ≡ true)
         × (mark.group ≡ other.group → mark.class ≡ other.class) }
@@ -130,7 +125,7 @@ fn mark(group: u32, object: u32, mask: u32) -> Mark {
     }
 }
 
-// The same with an ignored set alone.
+// The same with an ignored set, and nothing in its mask but qualifiers.
 fn ignoring(group: u32, object: u32, ignored: u32, mask: u32) -> Mark {
     Mark {
         ignored,
@@ -182,7 +177,7 @@ fn on_directory(bits: u32) -> Happening
     }
 }
 
-// What the first group wants, where one wants something.
+// What the first group that wants something wants.
 fn wanted(alloc: Global, marks: &[Mark], happening: &Happening) -> Result<Option<u32>, AllocError>
     requires { IsPlace happening.now.place }
 {

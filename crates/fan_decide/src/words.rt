@@ -1,21 +1,14 @@
 // The events of a happening that marks concern and ignore, as words.
 ghost use Rattle.std.specs.Prelude.{◌≡◌, ℕ, ◌^◌};
 ghost use Rattle.std.specs.List.{list_any};
-ghost use Rattle.fan_bits.specs.Interest.{is_on_place, is_parent, reaches, concerns, ignores};
+ghost use Rattle.fan_bits.specs.Interest.{is_on_place, reaches, concerns, ignores, watches_children};
+ghost use Rattle.fan_bits.specs.Places.{is_parent};
 ghost use Rattle.fan_bits.specs.Words.{occurs};
 ghost use Rattle.fan_decide.specs.Words.{HasJust, answer_concerns, answer_ignores, wanted_by};
 
-use fan_bits::{Happening, Mark, Place};
+use fan_bits::{CHILD_EVENTS, FAN_EVENT_ON_CHILD, FAN_ONDIR, Happening, Mark, Place};
 
-// FAN_EVENT_ON_CHILD and FAN_ONDIR of fanotify_mark(2).
-const EVENT_ON_CHILD: u32 = 0x0800_0000;
-
-const ONDIR: u32 = 0x4000_0000;
-
-// The events of an entry that a mark on its directory asks for with FAN_EVENT_ON_CHILD.
-const CHILD_EVENTS: u32 = 0x0007_103f;
-
-/// The events of a happening that a group wants by the marks of some answers.
+/// The events of a happening that a group wants, by the marks in the answers.
 #[tactic(auto, using(crate::proofs::WordLemmas::wanted_steps))]
 pub(crate) fn wanted_events(answers: &[Option<Mark>], group: u32, happening: &Happening) -> u32
     ensures { result ≡ wanted_by answers.now group happening.now }
@@ -29,7 +22,7 @@ pub(crate) fn wanted_events(answers: &[Option<Mark>], group: u32, happening: &Ha
     happening.bits & concerned & !ignored
 }
 
-// The events that the mark of an answer concerns, where it is one of the group.
+// The events that the mark of an answer asks for; none if it is another group's.
 #[tactic(auto, using(crate::proofs::WordLemmas::mark_events))]
 fn concerned_by(answer: &Option<Mark>, group: u32, happening: &Happening) -> u32
     ensures { HasJust result (λ event. answer_concerns group happening.now event answer.now) }
@@ -40,7 +33,7 @@ fn concerned_by(answer: &Option<Mark>, group: u32, happening: &Happening) -> u32
     }
 }
 
-// The events that the mark of an answer ignores, where it is one of the group.
+// The events that the mark of an answer ignores; none if it is another group's.
 #[tactic(auto, using(crate::proofs::WordLemmas::mark_events))]
 fn ignored_by(answer: &Option<Mark>, group: u32, happening: &Happening) -> u32
     ensures { HasJust result (λ event. answer_ignores group happening.now event answer.now) }
@@ -51,18 +44,18 @@ fn ignored_by(answer: &Option<Mark>, group: u32, happening: &Happening) -> u32
     }
 }
 
-// The events that a mark concerns; on a directory it has to have FAN_ONDIR.
+// The events of a happening that a mark asks for. On a directory it needs FAN_ONDIR.
 #[tactic(auto, using(crate::proofs::WordLemmas::mark_events))]
 fn concerned(mark: &Mark, happening: &Happening) -> u32
     ensures { HasJust result (concerns mark.now happening.now) }
 {
-    if happening.ondir && !has(mark.mask, ONDIR) {
+    if happening.ondir && !has(mark.mask, FAN_ONDIR) {
         return 0;
     }
     mark.mask & reached(mark, &happening.place)
 }
 
-// The events that a mark ignores, on directories too.
+// The events of a happening that a mark ignores, on directories too.
 #[tactic(auto, using(crate::proofs::WordLemmas::mark_events))]
 fn ignored(mark: &Mark, happening: &Happening) -> u32
     ensures { HasJust result (ignores mark.now happening.now) }
@@ -78,7 +71,7 @@ fn reached(mark: &Mark, place: &Place) -> u32
     if is_on_place(mark, place) {
         return u32::MAX;
     }
-    if is_on_parent(mark, place) && has(mark.mask, EVENT_ON_CHILD) {
+    if is_on_parent(mark, place) && watches_children(mark) {
         return CHILD_EVENTS;
     }
     0
@@ -98,7 +91,14 @@ fn is_on_parent(mark: &Mark, place: &Place) -> bool
     place.parent == Some(mark.object)
 }
 
-// Whether a flag stands in a word.
+// Whether a mark asks for events on the entries of its directory.
+fn watches_children(mark: &Mark) -> bool
+    ensures { result ≡ watches_children mark.now }
+{
+    has(mark.mask, FAN_EVENT_ON_CHILD)
+}
+
+// Whether a word has a flag.
 #[tactic(auto, using(fan_bits::proofs::Masks::mask_occurs))]
 fn has(word: u32, flag: u32) -> bool
     ensures { (number : ℕ) → flag ≡ 2 ^ number → result ≡ occurs word number }
