@@ -4,7 +4,7 @@ use Rattle.std.specs.Prelude.{codes}
 use Rattle.std.specs.Fmt.{decimal}
 use Rattle.std.specs.List.{join_with_byte}
 use Rattle.std.specs.Str.{bytes_eq}
-use Rattle.std.proofs.lemmas.Option.{same_Some}
+use Rattle.std.proofs.lemmas.Option.{option_and_then_some, same_Some}
 use Rattle.std.proofs.lemmas.Slice.Eq.{bytes_eq-Decides}
 use Rattle.fan_text.specs.Spelling.{IsPath}
 use Rattle.fan_text.proofs.PathLemmas.{path_spaceless}
@@ -16,7 +16,7 @@ use Rattle.fan_script.specs.declared.step.OpWord.TheVariants as ops
 use Rattle.fan_script.specs.declared.step.Step.TheVariants as steps
 use Rattle.fan_script.specs.Lines.{IsNumber, IsPid, FitsOp, op_word, second_words}
 use Rattle.fan_script.specs.Reading.{all_ops, op_at, one_path_at, two_paths_at, paths_at, begin_at, step_at, run_at}
-use Rattle.fan_script.proofs.OptionLemmas.{bind_some, find_some}
+use Rattle.fan_lists.proofs.Finds.{find_passes}
 use Rattle.fan_script.proofs.FieldLemmas.{path_takes, path_again, number_takes, number_again, split_number_takes, split_number_again}
 use Rattle.fan_script.proofs.WordLemmas.{Spells, split_takes, split_again}
 
@@ -25,7 +25,7 @@ pub op_takes : (word : List ℕ) (op : OpWord) → op_at word ≡ Some op → wo
 unfolding op_at
 op_takes word op e =
     let found : bytes_eq (op_word op) word ≡ true =
-    find_some (λ op. bytes_eq (op_word op) word) all_ops op e in
+    find_passes (λ op. bytes_eq (op_word op) word) all_ops op e in
     sym ((bytes_eq-Decides (op_word op) word).0 found)
 
 -- the word of an operation is read again, and has no space
@@ -55,7 +55,7 @@ one_path_takes : (fields : List ℕ) (paths : List ℕ × Option (List ℕ)) →
     → (fields ≡ join_with_byte 32 (paths.0 ∷ second_words paths.1)) × IsPath paths.0 × (paths.1 ≡ None)
 unfolding one_path_at
 one_path_takes fields paths e =
-    bind_some _ _ _ e (λ path p same.
+    option_and_then_some _ _ _ e (λ path p same.
     let word = path_takes fields path p in
     rw (← same_Some _ _ same) (word.0, word.1, refl))
 
@@ -64,9 +64,9 @@ two_paths_takes : (fields : List ℕ) (paths : List ℕ × Option (List ℕ)) �
     → ArePaths ops.Renames fields paths
 unfolding two_paths_at
 two_paths_takes fields paths e =
-    bind_some _ _ _ e (λ (parts : List ℕ × List ℕ) cut e.
-    bind_some _ _ _ e (λ from f e.
-    bind_some _ _ _ e (λ to t same.
+    option_and_then_some _ _ _ e (λ (parts : List ℕ × List ℕ) cut e.
+    option_and_then_some _ _ _ e (λ from f e.
+    option_and_then_some _ _ _ e (λ to t same.
     let first = path_takes parts.0 from f in
     let second = path_takes parts.1 to t in
     let are : ArePaths ops.Renames fields (from, Some to) = record {
@@ -107,12 +107,12 @@ pub begin_takes : (fields : List ℕ) (line : Line) → begin_at fields ≡ Some
     → Spells (codes "begin") fields line
 unfolding begin_at
 begin_takes fields line e =
-    bind_some _ _ _ e (λ (access : ℕ × List ℕ) a e.
-    bind_some _ _ _ e (λ (pid : ℕ × List ℕ) p e.
-    bind_some _ _ _ e (λ (tid : ℕ × List ℕ) t e.
-    bind_some _ _ _ e (λ (word : List ℕ × List ℕ) w e.
-    bind_some _ _ _ e (λ op o e.
-    bind_some _ _ _ e (λ (paths : List ℕ × Option (List ℕ)) r same.
+    option_and_then_some _ _ _ e (λ (access : ℕ × List ℕ) a e.
+    option_and_then_some _ _ _ e (λ (pid : ℕ × List ℕ) p e.
+    option_and_then_some _ _ _ e (λ (tid : ℕ × List ℕ) t e.
+    option_and_then_some _ _ _ e (λ (word : List ℕ × List ℕ) w e.
+    option_and_then_some _ _ _ e (λ op o e.
+    option_and_then_some _ _ _ e (λ (paths : List ℕ × Option (List ℕ)) r same.
     let number = split_number_takes 1 4294967295 fields access.0 access.1 a in
     let process = split_number_takes 1 2147483647 access.1 pid.0 pid.1 p in
     let thread = split_number_takes 1 2147483647 pid.1 tid.0 tid.1 t in
@@ -162,7 +162,7 @@ pub step_takes : (fields : List ℕ) (line : Line) → step_at fields ≡ Some l
     → Spells (codes "step") fields line
 unfolding step_at
 step_takes fields line e =
-    bind_some _ _ _ e (λ access a same.
+    option_and_then_some _ _ _ e (λ access a same.
     let number = number_takes 1 4294967295 fields access a in
     rw (← same_Some _ _ same, number.spelled) (refl, (number.low, number.high)))
 
@@ -175,7 +175,7 @@ step_again access a = rw (number_again 1 4294967295 access a.0 a.1 (omega arith)
 pub run_takes : (fields : List ℕ) (line : Line) → run_at fields ≡ Some line → Spells (codes "run") fields line
 unfolding run_at
 run_takes fields line e =
-    bind_some _ _ _ e (λ access a same.
+    option_and_then_some _ _ _ e (λ access a same.
     let number = number_takes 1 4294967295 fields access a in
     rw (← same_Some _ _ same, number.spelled) (refl, (number.low, number.high)))
 

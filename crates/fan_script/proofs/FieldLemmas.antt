@@ -2,15 +2,14 @@
 use Rattle.std.proofs.Common.{◌≡◌, ℕ, ◌^◌, ◌<◌, ◌≤◌, true, false, ltb, List, ◌∷◌, ◌++◌, Some, refl, arith}
 use Rattle.std.specs.Fmt.{decimal}
 use Rattle.std.proofs.lemmas.Bool.{ltb-false, le-ltb}
-use Rattle.std.proofs.lemmas.Option.{cond_some, some_pair_parts, same_Some}
+use Rattle.std.proofs.lemmas.Option.{cond_some, option_and_then_some, same_Some, some_pair_parts}
 use Rattle.fan_text.specs.Reading.{is_path}
 use Rattle.fan_text.specs.Spelling.{IsPath, hex}
 use Rattle.fan_text.proofs.DecimalLemmas.{decimal_takes, decimal_again, decimal_spaceless}
 use Rattle.fan_text.proofs.HexLemmas.{hex_takes, hex_again, hex_spaceless}
 use Rattle.fan_text.proofs.PathLemmas.{path_decides}
-use Rattle.fan_text.proofs.TestLemmas.{fail_some}
+use Rattle.fan_lists.proofs.Choices.{some_past}
 use Rattle.fan_script.specs.Reading.{number_at, number_and_rest, flags_at, flags_and_rest, mask_and_rest, path_at}
-use Rattle.fan_script.proofs.OptionLemmas.{bind_some}
 use Rattle.fan_script.proofs.WordLemmas.{split_takes, split_again}
 
 -- the word is the decimal of a number in range
@@ -24,9 +23,9 @@ pub number_takes : (least most : ℕ) (word : List ℕ) (n : ℕ) → number_at 
     → IsNumeral least most word n
 unfolding number_at
 number_takes least most word n e =
-    bind_some _ _ _ e (λ value read more.
-    let low = fail_some (ltb value least) _ n more in
-    let high = fail_some (ltb most value) (Some value) n low.1 in
+    option_and_then_some _ _ _ e (λ value read more.
+    let low = some_past (ltb value least) _ n more in
+    let high = some_past (ltb most value) (Some value) n low.1 in
     rw (← same_Some value n high.1) (record {
       spelled = (decimal_takes word value read).0;
       low = ltb-false _ _ low.0;
@@ -53,8 +52,8 @@ pub split_number_takes : (least most : ℕ) (bytes : List ℕ) (n : ℕ) (rest :
     → number_and_rest least most bytes ≡ Some (n, rest) → IsNumberBefore least most bytes n rest
 unfolding number_and_rest
 split_number_takes least most bytes n rest e =
-    bind_some _ _ _ e (λ (parts : List ℕ × List ℕ) cut more.
-    bind_some _ _ _ more (λ number read same.
+    option_and_then_some _ _ _ e (λ (parts : List ℕ × List ℕ) cut more.
+    option_and_then_some _ _ _ more (λ number read same.
     let pair = some_pair_parts number n parts.1 rest same in
     let numeral = number_takes least most parts.0 number read in
     rw (← pair.0, ← pair.1) (record {
@@ -76,8 +75,8 @@ split_number_again least most n rest low high top =
 pub flags_takes : (word : List ℕ) (n : ℕ) → flags_at word ≡ Some n → (word ≡ hex n) × (n < 2 ^ 32)
 unfolding flags_at
 flags_takes word n e =
-    bind_some _ _ _ e (λ value read more.
-    let high = fail_some (ltb 4294967295 value) (Some value) n more in
+    option_and_then_some _ _ _ e (λ value read more.
+    let high = some_past (ltb 4294967295 value) (Some value) n more in
     let most : value ≤ 4294967295 = ltb-false _ _ high.0 in
     rw (← same_Some value n high.1) ((hex_takes word value read).0, omega arith))
 
@@ -93,8 +92,8 @@ pub split_flags_takes : (bytes : List ℕ) (n : ℕ) (rest : List ℕ) → flags
     → (bytes ≡ hex n ++ 32 ∷ rest) × (n < 2 ^ 32)
 unfolding flags_and_rest
 split_flags_takes bytes n rest e =
-    bind_some _ _ _ e (λ (parts : List ℕ × List ℕ) cut more.
-    bind_some _ _ _ more (λ flags read same.
+    option_and_then_some _ _ _ e (λ (parts : List ℕ × List ℕ) cut more.
+    option_and_then_some _ _ _ more (λ flags read same.
     let pair = some_pair_parts flags n parts.1 rest same in
     let word = flags_takes parts.0 flags read in
     rw (← pair.0, ← pair.1) (rw (← word.0) (split_takes bytes parts.0 parts.1 cut), word.1)))
@@ -111,8 +110,8 @@ pub split_mask_takes : (bytes : List ℕ) (n : ℕ) (rest : List ℕ) → mask_a
     → (bytes ≡ hex n ++ 32 ∷ rest) × (n < 2 ^ 64)
 unfolding mask_and_rest
 split_mask_takes bytes n rest e =
-    bind_some _ _ _ e (λ (parts : List ℕ × List ℕ) cut more.
-    bind_some _ _ _ more (λ mask read same.
+    option_and_then_some _ _ _ e (λ (parts : List ℕ × List ℕ) cut more.
+    option_and_then_some _ _ _ more (λ mask read same.
     let pair = some_pair_parts mask n parts.1 rest same in
     let word = hex_takes parts.0 mask read in
     rw (← pair.0, ← pair.1) (rw (← word.0) (split_takes bytes parts.0 parts.1 cut), word.1)))

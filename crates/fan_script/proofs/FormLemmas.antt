@@ -2,7 +2,7 @@
 use Rattle.std.proofs.Common.{◌≡◌, ℕ, true, List, Some, refl, sym}
 use Rattle.std.specs.Prelude.{codes}
 use Rattle.std.specs.Str.{bytes_eq}
-use Rattle.std.proofs.lemmas.Option.{same_Some}
+use Rattle.std.proofs.lemmas.Option.{option_and_then_some, same_Some}
 use Rattle.std.proofs.lemmas.Slice.Eq.{bytes_eq-Decides}
 use Rattle.fan_text.proofs.SpaceLemmas.{is_spaceless}
 use Rattle.fan_script.specs.declared.forms.Form.{Form}
@@ -12,7 +12,8 @@ use Rattle.fan_script.specs.declared.line.Line.TheVariants.{One}
 use Rattle.fan_script.specs.declared.step.Step.TheVariants as steps
 use Rattle.fan_script.specs.Lines.{LineOf}
 use Rattle.fan_script.specs.Reading.{all_forms, form_word, form_named, fields_at, named_at, bare_at}
-use Rattle.fan_script.proofs.OptionLemmas.{bind_some, choice_some, find_some}
+use Rattle.fan_lists.proofs.Choices.{choice_some}
+use Rattle.fan_lists.proofs.Finds.{find_passes}
 use Rattle.fan_script.proofs.WordLemmas.{Spells}
 use Rattle.fan_script.proofs.TreeLemmas.{mkfile_takes, mkdir_takes, mount_takes, umount_takes}
 use Rattle.fan_script.proofs.GroupLemmas.{limit_takes, init_takes, mark_takes, read_takes, write_takes, close_takes}
@@ -23,7 +24,7 @@ form_takes : (word : List ℕ) (form : Form) → form_named word ≡ Some form �
 unfolding form_named
 form_takes word form e =
     let found : bytes_eq (form_word form) word ≡ true =
-    find_some (λ form. bytes_eq (form_word form) word) all_forms form e in
+    find_passes (λ form. bytes_eq (form_word form) word) all_forms form e in
     sym ((bytes_eq-Decides (form_word form) word).0 found)
 
 -- the first word of a form is read again, and has no space
@@ -66,7 +67,8 @@ pub named_takes : (name fields : List ℕ) (line : Line) → named_at name field
     → Spells name fields line
 unfolding named_at
 named_takes name fields line e =
-    bind_some _ _ _ e (λ form f read. rw (form_takes name form f) (fields_takes form fields line read))
+    option_and_then_some _ _ _ e
+    (λ form f read. rw (form_takes name form f) (fields_takes form fields line read))
 
 -- fields that are read for a form are read behind its first word
 pub named_again : (form : Form) (fields : List ℕ) (line : Line) → fields_at form fields ≡ Some line

@@ -2,7 +2,7 @@
 use Rattle.std.proofs.Common.{◌≡◌, ℕ, ◌^◌, ◌<◌, ◌≤◌, List, ◌∷◌, ◌++◌, Some, refl, arith}
 use Rattle.std.specs.Prelude.{codes}
 use Rattle.std.specs.Fmt.{decimal}
-use Rattle.std.proofs.lemmas.Option.{same_Some}
+use Rattle.std.proofs.lemmas.Option.{option_and_then_some, same_Some}
 use Rattle.fan_text.specs.Spelling.{IsPath, IsResponse, hex, hex_text}
 use Rattle.fan_text.proofs.BytesLemmas.{bytes_takes, bytes_again}
 use Rattle.fan_script.specs.declared.line.Line.{Line}
@@ -10,7 +10,6 @@ use Rattle.fan_script.specs.declared.line.Line.TheVariants.{One}
 use Rattle.fan_script.specs.declared.step.Step.TheVariants as steps
 use Rattle.fan_script.specs.Lines.{IsNumber}
 use Rattle.fan_script.specs.Reading.{limit_at, init_at, mark_at, read_at, write_at, close_at}
-use Rattle.fan_script.proofs.OptionLemmas.{bind_some}
 use Rattle.fan_script.proofs.FieldLemmas.{path_takes, path_again, number_takes, number_again, split_number_takes, split_number_again, flags_takes, flags_again, split_flags_takes, split_flags_again, split_mask_takes, split_mask_again}
 use Rattle.fan_script.proofs.WordLemmas.{Spells}
 
@@ -19,7 +18,7 @@ pub limit_takes : (fields : List ℕ) (line : Line) → limit_at fields ≡ Some
     → Spells (codes "limit") fields line
 unfolding limit_at
 limit_takes fields line e =
-    bind_some _ _ _ e (λ entries n same.
+    option_and_then_some _ _ _ e (λ entries n same.
     let number = number_takes 1 16384 fields entries n in
     rw (← same_Some _ _ same, number.spelled) (refl, (number.low, number.high)))
 
@@ -34,7 +33,7 @@ pub init_takes : (fields : List ℕ) (line : Line) → init_at fields ≡ Some l
     → Spells (codes "init") fields line
 unfolding init_at
 init_takes fields line e =
-    bind_some _ _ _ e (λ flags f same.
+    option_and_then_some _ _ _ e (λ flags f same.
     let word = flags_takes fields flags f in
     rw (← same_Some _ _ same, word.0) (refl, word.1))
 
@@ -48,10 +47,10 @@ pub mark_takes : (fields : List ℕ) (line : Line) → mark_at fields ≡ Some l
     → Spells (codes "mark") fields line
 unfolding mark_at
 mark_takes fields line e =
-    bind_some _ _ _ e (λ (group : ℕ × List ℕ) g e.
-    bind_some _ _ _ e (λ (flags : ℕ × List ℕ) f e.
-    bind_some _ _ _ e (λ (mask : ℕ × List ℕ) m e.
-    bind_some _ _ _ e (λ path p same.
+    option_and_then_some _ _ _ e (λ (group : ℕ × List ℕ) g e.
+    option_and_then_some _ _ _ e (λ (flags : ℕ × List ℕ) f e.
+    option_and_then_some _ _ _ e (λ (mask : ℕ × List ℕ) m e.
+    option_and_then_some _ _ _ e (λ path p same.
     let number = split_number_takes 1 4294967295 fields group.0 group.1 g in
     let first = split_flags_takes group.1 flags.0 flags.1 f in
     let second = split_mask_takes flags.1 mask.0 mask.1 m in
@@ -78,8 +77,8 @@ pub read_takes : (fields : List ℕ) (line : Line) → read_at fields ≡ Some l
     → Spells (codes "read") fields line
 unfolding read_at
 read_takes fields line e =
-    bind_some _ _ _ e (λ (group : ℕ × List ℕ) g e.
-    bind_some _ _ _ e (λ size s same.
+    option_and_then_some _ _ _ e (λ (group : ℕ × List ℕ) g e.
+    option_and_then_some _ _ _ e (λ size s same.
     let number = split_number_takes 1 4294967295 fields group.0 group.1 g in
     let room = number_takes 0 1048576 group.1 size s in
     rw (← same_Some _ _ same, number.spelled, room.spelled) (refl, ((number.low, number.high), room.high))))
@@ -99,8 +98,8 @@ pub write_takes : (fields : List ℕ) (line : Line) → write_at fields ≡ Some
     → Spells (codes "write") fields line
 unfolding write_at
 write_takes fields line e =
-    bind_some _ _ _ e (λ (group : ℕ × List ℕ) g e.
-    bind_some _ _ _ e (λ bytes b same.
+    option_and_then_some _ _ _ e (λ (group : ℕ × List ℕ) g e.
+    option_and_then_some _ _ _ e (λ bytes b same.
     let number = split_number_takes 1 4294967295 fields group.0 group.1 g in
     let word = bytes_takes group.1 bytes b in
     rw (← same_Some _ _ same, number.spelled, word.0) (refl, ((number.low, number.high), word.1))))
@@ -118,7 +117,7 @@ pub close_takes : (fields : List ℕ) (line : Line) → close_at fields ≡ Some
     → Spells (codes "close") fields line
 unfolding close_at
 close_takes fields line e =
-    bind_some _ _ _ e (λ group g same.
+    option_and_then_some _ _ _ e (λ group g same.
     let number = number_takes 1 4294967295 fields group g in
     rw (← same_Some _ _ same, number.spelled) (refl, (number.low, number.high)))
 

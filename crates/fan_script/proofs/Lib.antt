@@ -1,4 +1,3 @@
-pub mod OptionLemmas
 pub mod WordLemmas
 pub mod FieldLemmas
 pub mod TreeLemmas

@@ -2,13 +2,12 @@
 use Rattle.std.proofs.Common.{◌≡◌, ℕ, ◌≤◌, List, ◌∷◌, ◌++◌, Some, refl, arith}
 use Rattle.std.specs.Prelude.{codes}
 use Rattle.std.specs.Fmt.{decimal}
-use Rattle.std.proofs.lemmas.Option.{same_Some}
+use Rattle.std.proofs.lemmas.Option.{option_and_then_some, same_Some}
 use Rattle.fan_text.specs.Spelling.{IsPath}
 use Rattle.fan_script.specs.declared.line.Line.{Line}
 use Rattle.fan_script.specs.declared.line.Line.TheVariants.{One}
 use Rattle.fan_script.specs.declared.step.Step.TheVariants as steps
 use Rattle.fan_script.specs.Reading.{mkfile_at, mkdir_at, mount_at, umount_at}
-use Rattle.fan_script.proofs.OptionLemmas.{bind_some}
 use Rattle.fan_script.proofs.WordLemmas.{Spells}
 use Rattle.fan_script.proofs.FieldLemmas.{path_takes, path_again, split_number_takes, split_number_again}
 
@@ -17,7 +16,7 @@ pub mkfile_takes : (fields : List ℕ) (line : Line) → mkfile_at fields ≡ So
     → Spells (codes "mkfile") fields line
 unfolding mkfile_at
 mkfile_takes fields line e =
-    bind_some _ _ _ e (λ path p same.
+    option_and_then_some _ _ _ e (λ path p same.
     let word = path_takes fields path p in
     rw (← same_Some _ _ same, word.0) (refl, word.1))
 
@@ -31,7 +30,7 @@ pub mkdir_takes : (fields : List ℕ) (line : Line) → mkdir_at fields ≡ Some
     → Spells (codes "mkdir") fields line
 unfolding mkdir_at
 mkdir_takes fields line e =
-    bind_some _ _ _ e (λ path p same.
+    option_and_then_some _ _ _ e (λ path p same.
     let word = path_takes fields path p in
     rw (← same_Some _ _ same, word.0) (refl, word.1))
 
@@ -45,8 +44,8 @@ pub mount_takes : (fields : List ℕ) (line : Line) → mount_at fields ≡ Some
     → Spells (codes "mount") fields line
 unfolding mount_at
 mount_takes fields line e =
-    bind_some _ _ _ e (λ (fs : ℕ × List ℕ) f e.
-    bind_some _ _ _ e (λ path p same.
+    option_and_then_some _ _ _ e (λ (fs : ℕ × List ℕ) f e.
+    option_and_then_some _ _ _ e (λ path p same.
     let number = split_number_takes 1 65535 fields fs.0 fs.1 f in
     let word = path_takes fs.1 path p in
     rw (← same_Some _ _ same, number.spelled, word.0) (refl, ((number.low, number.high), word.1))))
@@ -63,7 +62,7 @@ pub umount_takes : (fields : List ℕ) (line : Line) → umount_at fields ≡ So
     → Spells (codes "umount") fields line
 unfolding umount_at
 umount_takes fields line e =
-    bind_some _ _ _ e (λ path p same.
+    option_and_then_some _ _ _ e (λ path p same.
     let word = path_takes fields path p in
     rw (← same_Some _ _ same, word.0) (refl, word.1))
 

@@ -4,12 +4,11 @@ use Rattle.std.specs.List.{position, position_or_len}
 use Rattle.std.proofs.lemmas.Bool.{and_parts, ltb-true, lt-ltb, eqb-true}
 use Rattle.std.proofs.lemmas.List.{take_at, drop_at, drop-drop}
 use Rattle.std.proofs.lemmas.List.Sums.{split_at_first, passes_at_first}
-use Rattle.std.proofs.lemmas.Option.{cond_some, some_pair_parts}
+use Rattle.std.proofs.lemmas.Option.{cond_some, option_and_then_some, some_pair_parts}
 use Rattle.fan_text.proofs.SpaceLemmas.{is_space, is_spaceless}
 use Rattle.fan_script.specs.declared.line.Line.{Line}
 use Rattle.fan_script.specs.Lines.{LineOf}
 use Rattle.fan_script.specs.Reading.{split_at_space}
-use Rattle.fan_script.proofs.OptionLemmas.{bind_some}
 
 -- the first space stands behind a word that has none
 position_behind : (word rest : List ℕ) → is_spaceless word ≡ true
@@ -51,7 +50,7 @@ pub split_takes : (bytes word rest : List ℕ) → split_at_space bytes ≡ Some
     → bytes ≡ word ++ 32 ∷ rest
 unfolding split_at_space
 split_takes bytes word rest e =
-    bind_some _ _ _ e (λ at found cut.
+    option_and_then_some _ _ _ e (λ at found cut.
     let parts = some_pair_parts (take at bytes) word (drop (at + 1) bytes) rest cut in
     rw (← parts.0, ← parts.1) (found_at bytes at found))
 

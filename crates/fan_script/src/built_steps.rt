@@ -1,17 +1,10 @@
 // Which steps the machine does by now.
 ghost use Rattle.std.specs.Prelude.{◌≡◌, ◌^◌, ℕ};
-ghost use Rattle.fan_bits.specs.MarkWords.{has_any};
-ghost use Rattle.fan_bits.specs.Words.{occurs};
+ghost use Rattle.fan_bits.specs.Words.{has_any, occurs};
 ghost use Rattle.fan_script.specs.Built.{is_built, unbuilt_init_flags};
 
 use super::step::{OpWord, Step};
-
-// The flags of fanotify_init(2) that ask for handles.
-const REPORT_FID: u32 = 0x200;
-
-const REPORT_DIR_FID: u32 = 0x400;
-
-const REPORT_NAME: u32 = 0x800;
+use fan_bits::{FAN_REPORT_DIR_FID, FAN_REPORT_FID, FAN_REPORT_NAME};
 
 // Whether the flags have this one.
 #[tactic(auto, using(fan_bits::proofs::Masks::mask_occurs))]
@@ -22,13 +15,13 @@ fn has(flags: u32, flag: u32) -> bool
 }
 
 // Whether a group with these flags reports handles.
-#[tactic(auto, unfolding(fan_bits::specs::MarkWords::has_any))]
+#[tactic(auto, unfolding(fan_bits::specs::Words::has_any))]
 fn asks_for_handles(flags: u32) -> bool
     ensures { result ≡ has_any unbuilt_init_flags flags }
 {
-    let fid = has(flags, REPORT_FID);
-    let dir_fid = has(flags, REPORT_DIR_FID);
-    let name = has(flags, REPORT_NAME);
+    let fid = has(flags, FAN_REPORT_FID);
+    let dir_fid = has(flags, FAN_REPORT_DIR_FID);
+    let name = has(flags, FAN_REPORT_NAME);
     fid || dir_fid || name
 }
 

@@ -17,7 +17,8 @@ mod tree;
 mod words;
 
 pub use built_steps::built;
+pub use fan_bits::StepOutcome;
 pub use laws::{at_most_one_line, finds_the_line};
 pub use line::{Line, LineRefused, read_line};
-pub use reply::{Reply, StepOutcome};
+pub use reply::Reply;
 pub use step::{OpWord, Step};

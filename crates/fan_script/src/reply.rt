@@ -1,5 +1,5 @@
 // What is answered to a step.
-use fan_bits::Errno;
+use fan_bits::{Errno, StepOutcome};
 use fan_io::Items;
 
 /// What the machine answers to a step.
@@ -23,29 +23,4 @@ pub enum Reply {
     Refused(Errno),
     /// What single steps of an access did.
     Out(Items<StepOutcome>),
-}
-
-/// What one single step of an access did; each but the last names the group.
-#[derive(Clone, Copy, Debug, PartialEq, Eq)]
-pub enum StepOutcome {
-    /// The group is asked: a permission event is queued, and the access waits for its answer.
-    Asked(u32),
-    /// The access still waits for the answer of the group.
-    Blocked(u32),
-    /// The group allowed the access, which goes on.
-    Allowed(u32),
-    /// The group denied the access, which is finished.
-    Denied(u32),
-    /// The group is closed: it gave no answer, or is not asked or told, and the access goes on.
-    Closed(u32),
-    /// The permission event was dropped at the limit of the group's queue, and the access goes on.
-    Full(u32),
-    /// The group was told, and the event is queued.
-    Queued(u32),
-    /// The group was told, and a queued event took the bits.
-    Merged(u32),
-    /// The event was dropped at the limit of the group's queue; the overflow event stands for it.
-    Overflow(u32),
-    /// The access is finished.
-    Done,
 }

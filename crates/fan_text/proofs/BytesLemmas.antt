@@ -6,7 +6,8 @@ use Rattle.std.proofs.lemmas.List.Elements.{All-nil, All-cons, All-head, All-tai
 use Rattle.std.proofs.lemmas.Option.{cond_some}
 use Rattle.fan_text.specs.Reading.{is_hex_digit, hex_value, is_response, bytes_of, bytes_at}
 use Rattle.fan_text.specs.Spelling.{IsResponse, SpellsBytes, hex_text}
-use Rattle.fan_text.proofs.TestLemmas.{fail_true, found_by, missed_by}
+use Rattle.fan_lists.proofs.Choices.{true_past}
+use Rattle.fan_text.proofs.TestLemmas.{found_by, missed_by}
 use Rattle.fan_text.proofs.SpaceLemmas.{is_spaceless}
 use Rattle.fan_text.proofs.DigitLemmas.{are_hex, digit_takes, digit_again, digits_spaceless}
 
@@ -64,18 +65,18 @@ pairs_again (byte ∷ bytes) each =
 pub response_digits : (word : List ℕ) → is_response word ≡ true → are_hex word ≡ true
 unfolding is_response
 response_digits word e =
-    let some = fail_true (eqb (length word) 0) _ e in
-    let most = fail_true (ltb 128 (length word)) _ some.1 in
-    (fail_true (eqb (length word % 2) 1) _ most.1).1
+    let some = true_past (eqb (length word) 0) _ e in
+    let most = true_past (ltb 128 (length word)) _ some.1 in
+    (true_past (eqb (length word % 2) 1) _ most.1).1
 
 -- what passes the test spells a response
 is_response_takes : (word : List ℕ) → is_response word ≡ true
     → (hex_text (bytes_of word) ≡ word) × IsResponse (bytes_of word)
 unfolding is_response
 is_response_takes word e =
-    let some = fail_true (eqb (length word) 0) _ e in
-    let most = fail_true (ltb 128 (length word)) _ some.1 in
-    let even = fail_true (eqb (length word % 2) 1) _ most.1 in
+    let some = true_past (eqb (length word) 0) _ e in
+    let most = true_past (ltb 128 (length word)) _ some.1 in
+    let even = true_past (eqb (length word % 2) 1) _ most.1 in
     let nonempty : length word ≡ 0 → ⊥ = eqb-false _ _ some.0 in
     let within : length word ≤ 128 = ltb-false _ _ most.0 in
     let not_odd : length word % 2 ≡ 1 → ⊥ = eqb-false _ _ even.0 in

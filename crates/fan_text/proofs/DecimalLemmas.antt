@@ -14,7 +14,8 @@ use Rattle.std.proofs.lemmas.Option.{cond_some}
 use Rattle.std.proofs.lemmas.Fmt.{decimal-digits_value, digits_decimal, digits_value-decimal, length-decimal-le, decimal_nonempty, first_decimal, decimal_digit}
 use Rattle.fan_text.specs.Reading.{is_numeral, decimal_at}
 use Rattle.fan_text.specs.Spelling.{SpellsDecimal}
-use Rattle.fan_text.proofs.TestLemmas.{fail_some, found_by, missed_by}
+use Rattle.fan_lists.proofs.Choices.{some_past}
+use Rattle.fan_text.proofs.TestLemmas.{found_by, missed_by}
 use Rattle.fan_text.proofs.NumeralLemmas.{IsNumeral, numeral_takes, numeral_again}
 use Rattle.fan_text.proofs.SpaceLemmas.{is_space, is_spaceless}
 
@@ -60,8 +61,8 @@ decimal_is n small = record {
 pub decimal_takes : (word : List ℕ) (number : ℕ) → decimal_at word ≡ Some number → SpellsDecimal word number
 unfolding decimal_at
 decimal_takes word number e =
-    let numeral = fail_some (not (is_numeral 20 word)) _ number e in
-    let digits = fail_some (not (are_digits word)) _ number numeral.1 in
+    let numeral = some_past (not (is_numeral 20 word)) _ number e in
+    let digits = some_past (not (are_digits word)) _ number numeral.1 in
     let found = cond_some (ltb (digits_value 10 word) (2 ^ 64)) (digits_value 10 word) number digits.1 in
     let shape = numeral_takes 20 word (grind arith) in
     let small = ltb-true _ _ found.0 in

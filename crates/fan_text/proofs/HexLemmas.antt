@@ -13,7 +13,8 @@ use Rattle.std.proofs.lemmas.Str.Parse.{digits_value-take-le}
 use Rattle.std.proofs.lemmas.Fmt.{digits_is_IsNumeral, hex_one_digit}
 use Rattle.fan_text.specs.Reading.{is_hex_digit, hex_value, is_numeral, hex_at}
 use Rattle.fan_text.specs.Spelling.{SpellsHex, hex, hex_digit}
-use Rattle.fan_text.proofs.TestLemmas.{fail_some, found_by, missed_by}
+use Rattle.fan_lists.proofs.Choices.{some_past}
+use Rattle.fan_text.proofs.TestLemmas.{found_by, missed_by}
 use Rattle.fan_text.proofs.NumeralLemmas.{IsNumeral, numeral_takes, numeral_again}
 use Rattle.fan_text.proofs.SpaceLemmas.{is_spaceless}
 use Rattle.fan_text.proofs.DigitLemmas.{are_hex, digit_at, digit_takes, digit_again, digit_value_is, all_digits, digits_spaceless}
@@ -168,8 +169,8 @@ hex_of_value (c ∷ word) digits h =
 pub hex_takes : (word : List ℕ) (number : ℕ) → hex_at word ≡ Some number → SpellsHex word number
 unfolding hex_at
 hex_takes word number e =
-    let numeral = fail_some (not (is_numeral 16 word)) _ number e in
-    let digits = fail_some (not (are_hex word)) (Some (digits_value 16 word)) number numeral.1 in
+    let numeral = some_past (not (is_numeral 16 word)) _ number e in
+    let digits = some_past (not (are_hex word)) (Some (digits_value 16 word)) number numeral.1 in
     let value : digits_value 16 word ≡ number = cc in
     let shape = numeral_takes 16 word (grind arith) in
     let all : are_hex word ≡ true = grind arith in

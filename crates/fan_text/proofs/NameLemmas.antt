@@ -9,7 +9,7 @@ use Rattle.std.proofs.lemmas.List.Elements.{All-head, All-tail}
 use Rattle.std.proofs.lemmas.Slice.Eq.{bytes_eq-Decides}
 use Rattle.fan_text.specs.Reading.{is_name_byte, is_name}
 use Rattle.fan_text.specs.Spelling.{IsNameByte, IsName}
-use Rattle.fan_text.proofs.TestLemmas.{fail_true}
+use Rattle.fan_lists.proofs.Choices.{true_past}
 use Rattle.fan_text.proofs.SpaceLemmas.{is_space, is_spaceless}
 
 -- the test of a byte tells whether it is a name byte
@@ -25,10 +25,10 @@ name_bytes_decides name = Decides-by_and is_name_byte IsNameByte
 pub name_takes : (name : List ℕ) → is_name name ≡ true → IsName name
 unfolding is_name
 name_takes name e =
-    let some = fail_true (eqb (length name) 0) _ e in
-    let most = fail_true (ltb 255 (length name)) _ some.1 in
-    let dot = fail_true (bytes_eq name (codes ".")) _ most.1 in
-    let dots = fail_true (bytes_eq name (codes "..")) _ dot.1 in
+    let some = true_past (eqb (length name) 0) _ e in
+    let most = true_past (ltb 255 (length name)) _ some.1 in
+    let dot = true_past (bytes_eq name (codes ".")) _ most.1 in
+    let dots = true_past (bytes_eq name (codes "..")) _ dot.1 in
     let nonempty : length name ≡ 0 → ⊥ = eqb-false _ _ some.0 in
     record {
       some = omega arith;

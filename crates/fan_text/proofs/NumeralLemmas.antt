@@ -2,7 +2,7 @@
 use Rattle.std.proofs.Common.{◌≡◌, ℕ, ◌<◌, ◌≤◌, Bool, true, false, not, ◌||◌, eqb, ltb, List, length, get_or, refl, arith, inl, inr}
 use Rattle.std.proofs.lemmas.Bool.{ltb-false, le-ltb, eqb-true, eqb-false, eq-eqb, ne_eqb, cases_eq}
 use Rattle.fan_text.specs.Reading.{is_numeral}
-use Rattle.fan_text.proofs.TestLemmas.{fail_true}
+use Rattle.fan_lists.proofs.Choices.{true_past}
 
 -- 1 to `most` bytes, and no leading zero
 pub record IsNumeral (most : ℕ) (word : List ℕ) : Type 0 where
@@ -19,8 +19,8 @@ by_first false is_one e h = absurd cc
 pub numeral_takes : (most : ℕ) (word : List ℕ) → is_numeral most word ≡ true → IsNumeral most word
 unfolding is_numeral
 numeral_takes most word e =
-    let some = fail_true (eqb (length word) 0) _ e in
-    let short = fail_true (ltb most (length word)) _ some.1 in
+    let some = true_past (eqb (length word) 0) _ e in
+    let short = true_past (ltb most (length word)) _ some.1 in
     let nonempty : length word ≡ 0 → ⊥ = eqb-false _ _ some.0 in
     record {
       some = omega arith;

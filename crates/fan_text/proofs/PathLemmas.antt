@@ -10,7 +10,7 @@ use Rattle.std.proofs.lemmas.List.Folds.{list_all_at}
 use Rattle.std.proofs.lemmas.List.Splits.{slice_split_none, slice_split_at, length-slice_split, join_with_byte-slice_split}
 use Rattle.fan_text.specs.Reading.{is_name, are_names, is_path_of, is_path}
 use Rattle.fan_text.specs.Spelling.{IsNameByte, IsName, IsPath, joined}
-use Rattle.fan_text.proofs.TestLemmas.{fail_true}
+use Rattle.fan_lists.proofs.Choices.{true_past}
 use Rattle.fan_text.proofs.SpaceLemmas.{is_spaceless, spaceless-append}
 use Rattle.fan_text.proofs.NameLemmas.{name_decides, name_spaceless}
 
@@ -94,7 +94,7 @@ behind_takes false names e = inr e
 path_takes_of : (word : List ℕ) → is_path_of word ≡ true → length word ≤ 4095 → IsPath word
 path_takes_of [] e most = absurd cc
 path_takes_of (c ∷ rest) e most =
-    let first = fail_true (not (eqb c 47)) _ e in
+    let first = true_past (not (eqb c 47)) _ e in
     let slash : c ≡ 47 = grind (arith, nat_tests) in
     let path : IsPath (47 ∷ rest) = elim (behind_takes (eqb (length rest) 0) (are_names rest) first.1) [
       | inl none ↦ root_takes rest (eqb-true _ _ none) most
@@ -106,7 +106,7 @@ path_takes_of (c ∷ rest) e most =
 path_takes : (word : List ℕ) → is_path word ≡ true → IsPath word
 unfolding is_path
 path_takes word e =
-    let found = fail_true (ltb 4095 (length word)) _ e in
+    let found = true_past (ltb 4095 (length word)) _ e in
     path_takes_of word found.1 (ltb-false _ _ found.0)
 
 -- names, each behind a slash, pass the test

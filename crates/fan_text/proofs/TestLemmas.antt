@@ -1,17 +1,6 @@
--- Tests on the way to what is read, and what a reading says of the word.
-use Rattle.std.proofs.Common.{◌≡◌, Bool, true, false, cond, Option, Some, None, refl}
+-- What a reading says of the word.
+use Rattle.std.proofs.Common.{◌≡◌, Option, Some, None, refl}
 use Rattle.std.specs.Prelude.{◌↔◌, IfSome, IfNone}
-
--- a test that failed, before the value
-pub fail_some : {A : Type 0} (b : Bool) (x : Option A) (y : A) → cond b None x ≡ Some y
-    → (b ≡ false) × (x ≡ Some y)
-fail_some true x y e = absurd cc
-fail_some false x y e = (refl, e)
-
--- a test that failed, before a test that passed
-pub fail_true : (b c : Bool) → cond b false c ≡ true → (b ≡ false) × (c ≡ true)
-fail_true true c e = absurd cc
-fail_true false c e = (refl, e)
 
 found : {A : Type 0} (read result : Option A) (P : A → Type 0) → ((x : A) → (read ≡ Some x) ↔ P x)
     → read ≡ result → IfSome result P
