@@ -11,7 +11,7 @@ use Rattle.std.specs.declared.cmp.Ordering.{Ordering}
 use Rattle.std.specs.declared.cmp.Ordering.TheVariants.{Less, Equal, Greater}
 use Rattle.std.specs.declared.ops.Bound.TheVariants.{Included, Unbounded}
 use Rattle.fan_mounts.specs.declared.mount.Mount.{Mount}
-use Rattle.fan_mounts.specs.Pairs.{Entries, at_pair, pair_cmp}
+use Rattle.fan_mounts.specs.Pairs.{Entries, pair_cmp, standing}
 
 le_by : (first second : Ordering) (x y : ℕ) → MatchOrdering first (x < y) (x ≡ y) (y < x)
     → is_gt (ordering_then first second) ≡ false → x ≤ y
@@ -38,18 +38,19 @@ module _ (pairs : BTreeMap (ℕ × ℕ) Mount) (first : ℕ) (range : Entries)
     (is : IsRangeOf pair_cmp (Included (first, 0)) Unbounded pairs range) where
   -- where the range begins with the first number, it is there
   pub first_there : (key : ℕ × ℕ) (mount : Mount) (rest : Entries) → range ≡ (key, mount) ∷ rest
-      → (key.0 == first) ≡ true → (second : ℕ) × (is_some (at_pair pairs first second) ≡ true)
+      → (key.0 == first) ≡ true → (second : ℕ) × (is_some (standing pairs.entries first second) ≡ true)
   first_there key mount rest begins same =
-      let found : at_pair pairs key.0 key.1 ≡ Some mount = (rw begins at is.1).1 in
-      let at : at_pair pairs first key.1 ≡ Some mount = rw (sym (eqb-true key.0 first same)) found in
+      let found : standing pairs.entries key.0 key.1 ≡ Some mount = (rw begins at is.1).1 in
+      let at : standing pairs.entries first key.1 ≡ Some mount = rw (sym (eqb-true key.0 first same)) found in
       (key.1, rw at refl)
 
   -- where it begins with another, it is not
   pub first_gone : (key : ℕ × ℕ) (mount : Mount) (rest : Entries) → range ≡ (key, mount) ∷ rest
-      → (key.0 == first) ≡ false → (second : ℕ) → at_pair pairs first second ≡ None
+      → (key.0 == first) ≡ false → (second : ℕ) → standing pairs.entries first second ≡ None
   first_gone key mount rest begins other second =
       let above : first ≤ key.0 = first_le (first, 0) key (rw begins at is.1).0.0 in
-      elim (at_pair pairs first second) as (λ at. at_pair pairs first second ≡ at → at ≡ None) [
+      elim (standing pairs.entries first second) as (λ at.
+      standing pairs.entries first second ≡ at → at ≡ None) [
         | None ↦ λ at. refl
         | Some mount ↦ λ at.
             let least : IfSome (slice_get range 0) (λ entry. IsLeBy pair_cmp entry.0 (first, second)) =
@@ -59,7 +60,7 @@ module _ (pairs : BTreeMap (ℕ × ℕ) Mount) (first : ℕ) (range : Entries)
       ] refl
 
   -- and where it is empty, neither
-  pub first_none : range ≡ [] → (second : ℕ) → at_pair pairs first second ≡ None
+  pub first_none : range ≡ [] → (second : ℕ) → standing pairs.entries first second ≡ None
   first_none empty second = is.5 empty (first, second) (from_zero first second, tt)
 
 same_number : (x y : ℕ) → (x == y) ≡ is_eq (nat_cmp x y)

@@ -1,11 +1,7 @@
+pub mod Carrying
 pub mod FirstNumbers
-pub mod Found
-pub mod Indexed
-pub mod Kept
 pub mod Names
-pub mod Reached
-pub mod Removed
-pub mod Roots
-pub mod Steps
+pub mod Rising
+pub mod Standing
 pub mod Walked
-pub mod Whole
+pub mod Walks

@@ -1,30 +1,25 @@
-// The mounts by what they stand on: by mount and directory, and by directory alone.
+// The mounts by what they stand on.
 ghost use Rattle.std.specs.Prelude.{◌≡◌, ℕ, None, Some, OnErr, OnOk, is_some, true, false};
-ghost use Rattle.fan_mounts.specs.Pairs.{IsSame, Puts, standing};
+ghost use Rattle.fan_mounts.specs.Pairs.{Drops, IsEmptied, IsSame, Puts, standing};
 
-use super::mount::Mount;
-use super::pairs::{self, Pairs};
+use super::mount::{Mount, MountPoint};
 use fan_io::NoMemory;
 use std::alloc::Global;
 use std::collections::BTreeMap;
 use std::marker::Model;
 
-/// What stands on each directory as each mount shows it.
+/// What stands on each directory as each mount shows it, by the numbers of the mount and the directory.
 #[derive(Drop)]
 pub(crate) struct Index {
-    by_mount: Pairs,
-    by_dir: Pairs,
+    by_point: BTreeMap<(u32, u32), Mount>,
 }
 
 impl Model for Index {
-    ghost use Rattle.std.specs.Prelude.{◌≡◌, ℕ};
-    ghost use Rattle.fan_mounts.specs.Pairs.{Entries, at_pair};
+    ghost use Rattle.fan_mounts.specs.Pairs.{Entries};
 
     ghost Value = { Entries };
 
-    ghost view = { λ i. i.by_mount.entries };
-
-    ghost invariant = { λ i. (mount dir : ℕ) → at_pair i.by_dir dir mount ≡ at_pair i.by_mount mount dir };
+    ghost view = { λ i. i.by_point.entries };
 }
 
 impl Index {
@@ -33,8 +28,7 @@ impl Index {
         ensures { (mount dir : ℕ) → standing result mount dir ≡ None }
     {
         Index {
-            by_mount: BTreeMap::new(alloc),
-            by_dir: BTreeMap::new(alloc),
+            by_point: BTreeMap::new(alloc),
         }
     }
 
@@ -42,7 +36,7 @@ impl Index {
     pub(crate) fn at(&self, mount: u32, dir: u32) -> Option<Mount>
         ensures { result ≡ standing self.now mount dir }
     {
-        pairs::at(&self.by_mount, mount, dir)
+        self.by_point.get(&(mount, dir)).copied()
     }
 
     /// Whether some mount stands on a directory of a mount.
@@ -50,47 +44,39 @@ impl Index {
         ensures some { result ≡ true → (dir : ℕ) × (is_some (standing self.now mount dir) ≡ true) }
         ensures none { result ≡ false → (dir : ℕ) → standing self.now mount dir ≡ None }
     {
-        pairs::has_first(&self.by_mount, mount)
+        match self.by_point.range((mount, 0)..).next() {
+            Some((point, _)) => point.0 == mount,
+            None => false,
+        }
     }
 
-    /// Whether some mount stands on a directory, through whichever mount this is reached.
-    pub(crate) fn has_dir(&self, dir: u32) -> bool
-        ensures some { result ≡ true → (mount : ℕ)
-            × (is_some (standing self.now mount dir) ≡ true) }
-        ensures none { result ≡ false → (mount : ℕ) → standing self.now mount dir ≡ None }
-    {
-        pairs::has_first(&self.by_dir, dir)
-    }
-
-    /// Puts a mount on a directory on which none stands.
-    pub(crate) fn put(&mut self, mount: u32, dir: u32, found: Mount) -> Result<(), NoMemory>
-        requires { standing self.old mount dir ≡ None }
+    /// Puts a mount on a directory of a mount.
+    pub(crate) fn insert(&mut self, mount: u32, dir: u32, found: Mount) -> Result<(), NoMemory>
         ensures ok { OnOk result
             (Puts (standing self.old) (standing self.new) mount dir (Some found)) }
         ensures err { OnErr result (IsSame (standing self.old) (standing self.new)) }
     {
-        pairs::put(&mut self.by_mount, mount, dir, found)?;
-        if let Err(refusal) = pairs::put(&mut self.by_dir, dir, mount, found) {
-            pairs::remove(&mut self.by_mount, mount, dir);
-            return Err(refusal);
-        }
+        self.by_point.insert((mount, dir), found)?;
         Ok(())
     }
 
-    /// Puts another mount on a directory on which one stands. Takes no memory.
-    pub(crate) fn set(&mut self, mount: u32, dir: u32, found: Mount)
-        requires { is_some (standing self.old mount dir) ≡ true }
-        ensures { Puts (standing self.old) (standing self.new) mount dir (Some found) }
+    /// Removes those mounts of a list that have a number from where they stand. Allocates nothing.
+    pub(crate) fn remove_all(&mut self, mounts: &[Mount], number: u32)
+        ensures { Drops (standing self.old) (standing self.new) number mounts.now }
     {
-        pairs::set(&mut self.by_mount, mount, dir, found);
-        pairs::set(&mut self.by_dir, dir, mount, found);
+        for mount in mounts {
+            if mount.number == number {
+                self.remove(mount.point);
+            }
+        }
     }
 
-    /// Takes away what stands on a directory of a mount. Takes no memory.
-    pub(crate) fn remove(&mut self, mount: u32, dir: u32)
-        ensures { Puts (standing self.old) (standing self.new) mount dir None }
+    // Removes what stands at a point, if it is one.
+    fn remove(&mut self, point: Option<MountPoint>)
+        ensures { IsEmptied (standing self.old) (standing self.new) point }
     {
-        pairs::remove(&mut self.by_mount, mount, dir);
-        pairs::remove(&mut self.by_dir, dir, mount);
+        if let Some(point) = point {
+            self.by_point.remove(&(point.mount, point.dir));
+        }
     }
 }

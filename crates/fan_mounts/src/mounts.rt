@@ -1,11 +1,11 @@
 // All mounts, and the walk of a path through them.
-ghost use Rattle.std.specs.Prelude.{◌≡◌, ℕ, List, IfOk, IfErr, OnOk, OnErr, Ok, Err, None, IfSome, is_some, true, ◌<◌, ◌==◌, ◌≢◌, length, position, slice_get};
-ghost use Rattle.std.specs.List.{remove};
-ghost use Rattle.fan_bits.specs.Places.{IsPlace};
+ghost use Rattle.std.specs.Prelude.{◌≡◌, ℕ, ◌==◌, ◌∷◌, ◌++◌, List, [], IfOk, IfErr, OnOk, OnErr, Ok, Err, None, Some, is_some, true, false};
+ghost use Rattle.fan_bits.specs.Places.{IsObject, IsPlace};
 ghost use Rattle.fan_mounts.specs.Kept.{AreKept};
-ghost use Rattle.fan_mounts.specs.Mounts.{AreMounts, carries, mount_at, mount_of, mounted, opening_mounts, root_mount, stands_on, unmounted, with_mount};
+ghost use Rattle.fan_mounts.specs.Mounts.{AreMounts, carries, initial_mounts, mount_at, mount_of, mounted, others, root_mount, unmounted, with_mount};
 ghost use Rattle.fan_mounts.specs.Reaches.{Reaches, place_of, root_place};
-ghost use Rattle.fan_tree.specs.Tree.{IsRefused, IsTree, drawn};
+ghost use Rattle.fan_tree.specs.Tree.{IsRefused, drawn};
+ghost use Rattle.fan_tree.specs.Whole.{IsTree};
 
 use super::index::Index;
 use super::mount::{Mount, MountPoint};
@@ -41,7 +41,7 @@ impl Model for Mounts {
 impl Mounts {
     /// The mount of filesystem 1 at `/`, with number 3.
     pub fn new(alloc: Global) -> Result<Mounts, NoMemory>
-        ensures opening { IfOk result (λ mounts. mounts ≡ opening_mounts) }
+        ensures initial { IfOk result (λ mounts. mounts ≡ initial_mounts) }
         ensures whole { IfOk result AreMounts }
     {
         let mut mounts = Vec::new(alloc);
@@ -57,8 +57,8 @@ impl Mounts {
     }
 
     /// What a path reaches: the walk begins at the mount at `/`, and crosses to the mount that stands on a
-    /// directory as it was reached. ENOENT exactly where an entry is missing, ENOTDIR exactly where a name
-    /// follows a file, whichever comes first. The names of the path are what stands between its slashes.
+    /// directory as it was reached. ENOENT exactly if an entry is missing, ENOTDIR exactly if a name follows
+    /// a file, whichever comes first. The names of the path are what stands between its slashes.
     pub fn place(&self, tree: &Tree, path: &[u8]) -> Result<Place, Errno>
         ensures place { result ≡ place_of tree.now self.now path.now }
         ensures within { IfOk result IsPlace }
@@ -75,8 +75,8 @@ impl Mounts {
     }
 
     /// Mounts a filesystem on a place that some path reaches, and gives the number of the mount. In this
-    /// order: ENOENT exactly where there is no such filesystem, ENOTDIR where the place is a file, EBUSY
-    /// where it is the root of a mount, ENOSPC where no number is left.
+    /// order: ENOENT exactly if there is no such filesystem, ENOTDIR if the place is a file, EBUSY if it is
+    /// the root of a mount, ENOSPC if no number is left.
     #[tactic(auto, unfolding(crate::specs::Mounts::mounted))]
     pub fn mount(&mut self, tree: &mut Tree, fs: u32, at: Place) -> Result<u32, TreeRefused>
         requires reached { (path : List ℕ) × Reaches tree.old self.old path at }
@@ -98,7 +98,7 @@ impl Mounts {
         self.put(tree, fs, at)
     }
 
-    /// Takes a mount away. EBUSY exactly for the one at `/`, and where a mount stands on a directory of it.
+    /// Removes a mount. EBUSY exactly for the one at `/`, and if a mount stands on a directory of it.
     #[tactic(auto, unfolding(crate::specs::Mounts::unmounted))]
     pub fn umount(&mut self, mount: u32) -> Result<(), Errno>
         requires { is_some (mount_of self.old mount) ≡ true }
@@ -109,18 +109,8 @@ impl Mounts {
         if mount == ROOT_MOUNT || self.carries(mount) {
             return Err(Errno::Ebusy);
         }
-        // There is just one, where all numbers were drawn from one tree.
-        while let Some(at) = self.find(mount) {
-            self.remove(at);
-        }
+        self.remove(mount);
         Ok(())
-    }
-
-    /// Whether some mount stands on a directory, through whichever mount this is reached.
-    pub fn stands_on(&self, inode: u32) -> bool
-        ensures { result ≡ stands_on self.now inode }
-    {
-        self.index.has_dir(inode)
     }
 
     /// The mount that stands on a directory as another mount shows it.
@@ -147,8 +137,7 @@ impl Mounts {
         self.index.has_mount(number)
     }
 
-    // Draws a number for a mount on a place on which none stands yet. Room is made first, since a number
-    // that was drawn is not given back.
+    // Draws a number for a mount on a place on which none stands yet.
     fn put(&mut self, tree: &mut Tree, fs: u32, at: Place) -> Result<u32, TreeRefused>
         requires { mount_at self.old at.mount at.inode ≡ None }
         ensures ok { IfOk result (λ number.
@@ -158,42 +147,44 @@ impl Mounts {
         ensures err { OnErr result (self.new ≡ self.old) }
         ensures tree { OnErr result (tree.new ≡ tree.old) }
     {
-        self.mounts.reserve(1)?;
-        let blank = Mount {
-            number: 0,
-            fs,
-            point: Some(MountPoint {
-                mount: at.mount,
-                dir: at.inode,
-            }),
-        };
-        self.index.put(at.mount, at.inode, blank)?;
-        let Some(number) = tree.draw() else {
-            self.index.remove(at.mount, at.inode);
+        let Some(number) = tree.next_number() else {
             return Err(TreeRefused::No(Errno::Enospc));
         };
-        let mount = Mount { number, ..blank };
-        self.index.set(at.mount, at.inode, mount);
-        self.mounts.push_reserved(mount);
+        let point = MountPoint {
+            mount: at.mount,
+            dir: at.inode,
+        };
+        self.push(number, fs, point)?;
+        // Drawn only now, since a number that was drawn is not given back.
+        tree.draw();
         Ok(number)
     }
 
-    // Where the first mount with a number stands in the list.
-    fn find(&self, number: u32) -> Option<usize>
-        ensures { result ≡ position (λ mount. mount.number == number) self.now }
+    // Adds a mount on a directory on which none stands yet.
+    fn push(&mut self, number: u32, fs: u32, point: MountPoint) -> Result<(), NoMemory>
+        requires object { IsObject number }
+        requires free { mount_at self.old point.mount point.dir ≡ None }
+        ensures ok { OnOk result (self.new
+            ≡ self.old ++ record { number = number; fs = fs; point = Some point } ∷ []) }
+        ensures err { OnErr result (self.new ≡ self.old) }
     {
-        self.mounts.iter().position(|mount| mount.number == number)
+        let mount = Mount {
+            number,
+            fs,
+            point: Some(point),
+        };
+        self.mounts.reserve(1)?;
+        self.index.insert(point.mount, point.dir, mount)?;
+        self.mounts.push_reserved(mount);
+        Ok(())
     }
 
-    // Takes out the mount at a place of the list, which is not the one at `/`.
-    fn remove(&mut self, at: usize)
-        requires within { at < length self.old }
-        requires other { IfSome (slice_get self.old at) (λ mount. mount.number ≢ root_mount) }
-        ensures { self.new ≡ remove self.old at }
+    // Removes the mount with a number, which is not the one at `/`.
+    fn remove(&mut self, number: u32)
+        requires { (number == root_mount) ≡ false }
+        ensures { self.new ≡ others number self.old }
     {
-        let gone = self.mounts.remove(at);
-        if let Some(point) = gone.point {
-            self.index.remove(point.mount, point.dir);
-        }
+        self.index.remove_all(&self.mounts, number);
+        self.mounts.retain(move |mount| mount.number != number);
     }
 }

@@ -9,7 +9,7 @@ use std::test::Fail;
 // The directories `a`, 4, and `b`, 5, and the file `f`, 6, at the root of filesystem 1; and filesystem 7,
 // whose root, 8, has the directory `x`, 9.
 fn small_tree(alloc: Global) -> Result<Tree, TreeRefused> {
-    let mut tree = Tree::new(alloc)?;
+    let mut tree = Tree::new(alloc);
     tree.make(2, b"a".as_slice(), true)?;
     tree.make(2, b"b".as_slice(), true)?;
     tree.make(2, b"f".as_slice(), false)?;
@@ -153,24 +153,8 @@ fn a_mount_stays_while_it_carries_another(rt: HostRuntime) -> Result<(), Fail> {
         umount_at(&mut mounts, &tree, b"/a".as_slice()),
         Err(Errno::Ebusy)
     );
-    assert_eq!(rt;
-        (
-            mounts.stands_on(4),
-            mounts.stands_on(9),
-            mounts.stands_on(10)
-        ),
-        (true, true, false)
-    );
     assert_eq!(rt; umount_at(&mut mounts, &tree, b"/a/x".as_slice()), Ok(()));
     assert_eq!(rt; umount_at(&mut mounts, &tree, b"/a".as_slice()), Ok(()));
-    assert_eq!(rt;
-        (
-            mounts.stands_on(4),
-            mounts.stands_on(5),
-            mounts.stands_on(9)
-        ),
-        (false, true, false)
-    );
     assert_eq!(rt;
         mounts.place(&tree, b"/a".as_slice()),
         place(3, 1, 4, Some(2))

@@ -1,8 +1,8 @@
-pub mod Changes
+pub mod Dirs
+pub mod Entries
 pub mod Found
-pub mod Indexed
 pub mod Kept
-pub mod NamesLemmas
-pub mod Nodes
-pub mod Rising
-pub mod Roots
+pub mod Lists
+pub mod Making
+pub mod Numbered
+pub mod Whole

@@ -1,4 +1,4 @@
-pub mod Inodes
 pub mod Names
 pub mod Steps
 pub mod Tree
+pub mod Whole

@@ -1,21 +1,88 @@
--- The names in a directory, as they are looked up. No public clause cites this.
-use Rattle.std.specs.Prelude.{◌≡◌, ℕ, List, Option, Some}
-use Rattle.std.specs.BTreeMap.{get_by}
-use Rattle.std.specs.Cmp.Lexicographic.{slice_cmp}
-use Rattle.std.specs.Map.{update}
+-- How the inodes and the names of a tree are kept. No public clause cites this.
+use Rattle.std.specs.Prelude.{◌≡◌, ℕ, List, [], ◌∷◌, ◌++◌, Option, Some, None, find, flat_map, map, nat_le, option_map, if◌then◌else◌}
+use Rattle.std.specs.BTreeMap.{is_at}
+use Rattle.std.specs.Global.{Vec}
+use Rattle.std.specs.Map.{lookup}
 use Rattle.std.specs.Ordering.{nat_cmp}
 use Rattle.std.specs.Str.{bytes_eq}
-use Rattle.fan_tree.specs.declared.names.Names.{Names}
+use Rattle.fan_tree.specs.declared.inode.About.{About}
+use Rattle.fan_tree.specs.Tree.{DirEntry, Inode, is_named}
 
--- the number of the entry with a name
-abbrev pub number_of : Names → List ℕ → Option ℕ
-number_of names name = get_by (λ key. slice_cmp nat_cmp name key.items) names.numbers
+-- what is kept of an inode, by its number
+abbrev pub inode_at : ℕ × About → Inode
+inode_at kept = record { number = kept.0; fs = kept.1.fs; dir = kept.1.dir }
 
--- one name has a number, and the others have what they had
-abbrev pub Numbers : Names → Names → List ℕ → ℕ → Type 0
-Numbers old new name number =
-    (other : List ℕ) → number_of new other ≡ update bytes_eq (number_of old) name (Some number) other
+-- the inodes, in the order of their numbers
+abbrev pub kept_inodes : List (ℕ × About) → List Inode
+kept_inodes kept = map inode_at kept
 
--- each name has what it had
-abbrev pub NumbersSame : Names → Names → Type 0
-NumbersSame old new = (name : List ℕ) → number_of new name ≡ number_of old name
+-- the names in a directory, each with the number of the inode that it leads to
+abbrev pub Named : Type 0
+Named = List (List ℕ × ℕ)
+
+-- the bytes of names, with their numbers
+abbrev pub named : List (Vec ℕ × ℕ) → Named
+named entries = map (λ entry. (entry.0.items, entry.1)) entries
+
+-- the number that a name leads to in a directory
+abbrev pub number_of : Named → List ℕ → Option ℕ
+number_of names name = lookup (bytes_eq name) names
+
+-- directories by their numbers, each with its names
+abbrev pub Dirs : Type 0
+Dirs = List (ℕ × Named)
+
+-- the number that a name leads to in a directory, if this has names
+abbrev pub number_by : Option Named → List ℕ → Option ℕ
+number_by None name = None
+number_by (Some names) name = number_of names name
+
+-- the number that a name leads to in the directory with a number
+abbrev pub number_in : Dirs → ℕ → List ℕ → Option ℕ
+number_in dirs dir name = number_by (lookup (is_at (nat_cmp dir)) dirs) name
+
+-- the entries of one directory
+abbrev pub entries_in : ℕ → Named → List DirEntry
+entries_in dir names = map (λ one. record { dir = dir; name = one.0; inode = one.1 }) names
+
+-- the entries of all directories, one directory after the other
+abbrev pub all_entries : Dirs → List DirEntry
+all_entries dirs = flat_map (λ one. entries_in one.0 one.1) dirs
+
+-- an entry at its place among those that stand by the number that they lead to
+abbrev pub placed : DirEntry → List DirEntry → List DirEntry
+placed entry [] = entry ∷ []
+placed entry (first ∷ more) =
+    if nat_le entry.inode first.inode then entry ∷ first ∷ more else first ∷ placed entry more
+
+-- entries by the number that they lead to, which is the order in which they were made
+abbrev pub by_inode : List DirEntry → List DirEntry
+by_inode [] = []
+by_inode (entry ∷ more) = placed entry (by_inode more)
+
+-- the entries of all directories in the order in which they were made
+abbrev pub in_order : Dirs → List DirEntry
+in_order dirs = by_inode (all_entries dirs)
+
+-- each name is looked up in its directory as it is found among all entries
+pub record AreFound (dirs : Dirs) : Type 0 where
+  pub found : (dir : ℕ) (name : List ℕ)
+      → number_in dirs dir name ≡ option_map (λ entry. entry.inode) (find (is_named dir name) (in_order dirs))
+
+-- a list with one element more, which stands somewhere in it
+pub record Adds {X : Type 0} (old new : List X) (one : X) : Type 0 where
+  pub before : List X
+  pub behind : List X
+  pub was : old ≡ before ++ behind
+  pub is : new ≡ before ++ one ∷ behind
+
+-- the same entries, also where they are looked up
+pub record NamesSame (old new : Dirs) : Type 0 where
+  pub entries : all_entries new ≡ all_entries old
+  pub numbers : (dir : ℕ) (name : List ℕ) → number_in new dir name ≡ number_in old dir name
+
+-- one entry more, which is looked up too
+pub record NamesOne (old new : Dirs) (entry : DirEntry) : Type 0 where
+  pub entries : Adds (all_entries old) (all_entries new) entry
+  pub numbers : (dir : ℕ) (name : List ℕ)
+      → number_in new dir name ≡ (if is_named dir name entry then Some entry.inode else number_in old dir name)

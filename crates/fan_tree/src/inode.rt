@@ -1,30 +1,12 @@
-// Files and directories, and why a change of the tree is refused.
+// What is told of a file or directory, and why a change of the tree is refused.
 use fan_bits::Errno;
-use fan_io::{Items, NoMemory};
-use std::alloc::{AllocError, AllocFailed};
-
-/// A file or a directory.
-#[derive(Debug, Drop)]
-pub struct Inode {
-    /// Its object number, from 1 to 65,535.
-    pub number: u32,
-    /// Its filesystem.
-    pub fs: u32,
-    /// Whether it is a directory.
-    pub dir: bool,
-    /// Its directory; the root of a filesystem has none.
-    pub parent: Option<u32>,
-    /// Its name in its directory; that of a root is empty.
-    pub name: Items<u8>,
-}
+use fan_io::NoMemory;
 
 /// What is told of an inode.
 #[derive(Clone, Copy, Debug, PartialEq, Eq)]
 pub struct About {
-    /// Its filesystem.
+    /// The number of its filesystem, from 1 to 65,535.
     pub fs: u32,
-    /// Its directory; the root of a filesystem has none.
-    pub parent: Option<u32>,
     /// Whether it is a directory.
     pub dir: bool,
 }
@@ -56,28 +38,6 @@ impl From<NoMemory> for TreeRefused {
     ghost from_gives = { λ _ e. e ≡ NoMemory };
 
     fn from(_: NoMemory) -> TreeRefused {
-        TreeRefused::NoMemory
-    }
-}
-
-impl From<AllocError> for TreeRefused {
-    ghost use Rattle.std.specs.Prelude.{◌≡◌};
-    ghost use Rattle.fan_tree.specs.declared.inode.TreeRefused.TheVariants.{NoMemory};
-
-    ghost from_gives = { λ _ e. e ≡ NoMemory };
-
-    fn from(_: AllocError) -> TreeRefused {
-        TreeRefused::NoMemory
-    }
-}
-
-impl<T: Drop> From<AllocFailed<T>> for TreeRefused {
-    ghost use Rattle.std.specs.Prelude.{◌≡◌};
-    ghost use Rattle.fan_tree.specs.declared.inode.TreeRefused.TheVariants.{NoMemory};
-
-    ghost from_gives = { λ _ e. e ≡ NoMemory };
-
-    fn from(_: AllocFailed<T>) -> TreeRefused {
         TreeRefused::NoMemory
     }
 }

@@ -1,12 +1,20 @@
-//! The file tree: files and directories of filesystems, with one sequence of object numbers.
+//! The file tree: inodes of filesystems, the directory entries that lead to them, and one sequence of object
+//! numbers.
+//!
+//!     let mut tree = Tree::new(alloc);
+//!     let dir = tree.make(2, b"etc".as_slice(), true)?; // the root of filesystem 1 is inode 2
+//!     let file = tree.make(dir, b"motd".as_slice(), false)?;
+//!     tree.child(dir, b"motd".as_slice()) // Some(file)
 #![tactic(auto)]
 
+mod dir;
 mod inode;
-mod inodes;
+mod laws;
 mod names;
 #[cfg(test)]
 mod tests;
 mod tree;
 
-pub use inode::{About, Inode, TreeRefused};
+pub use inode::{About, TreeRefused};
+pub use laws::{changes_keep_trees, names_are_unique};
 pub use tree::Tree;

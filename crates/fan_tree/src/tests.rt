@@ -7,7 +7,7 @@ use std::test::Fail;
 
 // A tree with the directory `d`, 4, at its root, and in it the file `f`, 5.
 fn small_tree(alloc: Global) -> Result<Tree, TreeRefused> {
-    let mut tree = Tree::new(alloc)?;
+    let mut tree = Tree::new(alloc);
     tree.make(2, b"d".as_slice(), true)?;
     tree.make(4, b"f".as_slice(), false)?;
     Ok(tree)
@@ -21,11 +21,7 @@ fn entries_are_found_where_they_were_made(rt: HostRuntime) -> Result<(), Fail> {
     assert_eq!(rt; tree.child(2, b"f".as_slice()), None);
     assert_eq!(rt; tree.child(4, b"d".as_slice()), None);
     assert_eq!(rt; tree.child(2, b"".as_slice()), None);
-    let file = About {
-        fs: 1,
-        parent: Some(4),
-        dir: false,
-    };
+    let file = About { fs: 1, dir: false };
     assert_eq!(rt; tree.about(5), Some(file));
     assert_eq!(rt; tree.about(3), None);
     assert_eq!(rt; tree.about(6), None);
@@ -41,11 +37,7 @@ fn a_filesystem_gets_a_number_and_its_root_the_next(rt: HostRuntime) -> Result<(
     assert_eq!(rt; tree.root(7), None);
     assert_eq!(rt; tree.root(4), None);
     assert_eq!(rt; tree.make(7, b"d".as_slice(), true), Ok(8));
-    let dir = About {
-        fs: 6,
-        parent: Some(7),
-        dir: true,
-    };
+    let dir = About { fs: 6, dir: true };
     assert_eq!(rt; tree.about(8), Some(dir));
     assert_eq!(rt; tree.child(7, b"d".as_slice()), Some(8));
     Ok(())
@@ -70,13 +62,14 @@ fn a_refused_step_draws_no_number(rt: HostRuntime) -> Result<(), Fail> {
 fn the_last_number_is_65535(rt: HostRuntime) -> Result<(), Fail> {
     let mut tree = small_tree(rt.alloc())?;
     for number in 6..65_534 {
+        assert_eq!(rt; tree.next_number(), Some(number));
         assert_eq!(rt; tree.draw(), Some(number));
     }
     let full = Err(TreeRefused::No(Errno::Enospc));
     assert_eq!(rt; tree.make_fs(), Ok(65_534));
     assert_eq!(rt; tree.root(65_534), Some(65_535));
     assert_eq!(rt; tree.make_fs(), full);
-    assert_eq!(rt; tree.draw(), None);
+    assert_eq!(rt; (tree.next_number(), tree.draw()), (None, None));
     for (dir, name, why) in [
         (2, b"e".as_slice(), Errno::Enospc),
         (2, b"d".as_slice(), Errno::Eexist),

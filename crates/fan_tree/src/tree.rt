@@ -1,83 +1,101 @@
-// The tree itself.
-ghost use Rattle.std.specs.Prelude.{◌≡◌, ◌+◌, ◌≤◌, [], true, IfOk, IfErr, IfSome, IfNone, Ok, None, Some, OnErr, OnOk, option_map};
-ghost use Rattle.std.specs.Option.{option_copied};
-ghost use Rattle.fan_tree.specs.Steps.{CanAdd, added, free_place, root_by};
-ghost use Rattle.fan_tree.specs.Tree.{IsRefused, IsTree, about_of, drawn, entry_of, inode_of, made, made_fs, opening_tree, root_of};
+// The tree itself: its inodes, its directory entries, and the number that the next object gets.
+ghost use Rattle.std.specs.Prelude.{◌≡◌, ◌+◌, ◌≤◌, IfErr, IfNone, IfOk, IfSome, None, Ok, OnErr, OnOk, Some, option_map};
+ghost use Rattle.fan_bits.specs.Places.{IsObject};
+ghost use Rattle.fan_tree.specs.Steps.{CanAdd, free_place};
+ghost use Rattle.fan_tree.specs.Tree.{IsRefused, about_of, drawn, entry_of, initial_tree, inode_of, made, made_fs, max_object, root_of, with_entry, with_fs};
+ghost use Rattle.fan_tree.specs.Whole.{IsTree};
 
-use super::inode::{About, Inode, TreeRefused};
-use super::inodes::Inodes;
+use super::inode::{About, TreeRefused};
+use super::names::Names;
 use fan_bits::Errno;
-use fan_io::{Items, NoMemory};
+use fan_io::NoMemory;
+use fan_map::Map;
 use std::alloc::Global;
 use std::marker::Model;
 
-/// The greatest number of an object.
-const GREATEST_OBJECT: u32 = 65_535;
+/// The largest object number.
+const MAX_OBJECT: u32 = 65_535;
 
 /// All files and directories.
 #[derive(Drop)]
 pub struct Tree {
-    alloc: Global,
-    inodes: Inodes,
+    inodes: Map<u32, About>,
+    names: Names,
     next: u32,
 }
 
 impl Model for Tree {
-    ghost use Rattle.fan_tree.specs.Tree.{TreeState, IsTree};
+    ghost use Rattle.fan_tree.specs.Names.{kept_inodes};
+    ghost use Rattle.fan_tree.specs.Tree.{TreeState};
+    ghost use Rattle.fan_tree.specs.Whole.{IsTree};
 
     ghost Value = { TreeState };
 
-    ghost view = { λ t. record { inodes = t.inodes; next = t.next } };
+    ghost view = { λ t.
+        record { inodes = kept_inodes t.inodes.entries; names = t.names; next = t.next } };
 
-    ghost invariant = { λ t. IsTree (record { inodes = t.inodes; next = t.next }) };
+    ghost invariant = { λ t. IsTree
+        (record { inodes = kept_inodes t.inodes.entries; names = t.names; next = t.next }) };
 }
 
 impl Tree {
     /// Filesystem 1 with its root directory, 2. Object 3 is the mount at `/`.
-    pub fn new(alloc: Global) -> Result<Tree, NoMemory>
-        ensures opening { IfOk result (λ tree. tree ≡ opening_tree) }
-        ensures whole { IfOk result IsTree }
+    pub fn new(alloc: Global) -> Tree
+        ensures initial { result ≡ initial_tree }
+        ensures whole { IsTree result }
     {
-        let mut inodes = Inodes::new(alloc);
-        inodes.push(root(alloc, 1, 2))?;
-        Ok(Tree {
-            alloc,
+        let mut inodes = Map::new(alloc);
+        inodes.insert_reserved(2, About { fs: 1, dir: true });
+        Tree {
             inodes,
+            names: Names::new(alloc),
             next: 4,
-        })
+        }
     }
 
-    /// The filesystem and the directory of an inode, and whether it is a directory; None exactly where
-    /// there is no such inode.
+    /// The filesystem of an inode, and whether it is a directory; None exactly if there is no such inode.
     pub fn about(&self, inode: u32) -> Option<About>
         ensures found { result ≡ option_map about_of (inode_of self.now inode) }
         ensures whole { IsTree self.now }
     {
-        self.inodes.get(inode).map(|found| About {
-            fs: found.fs,
-            parent: found.parent,
-            dir: found.dir,
-        })
+        self.inodes.get(&inode).copied()
     }
 
-    /// The number of the entry of a directory with a name; None exactly where there is none.
+    /// The number of the inode that a name leads to in a directory; None exactly if the directory has no such
+    /// name.
     pub fn child(&self, dir: u32, name: &[u8]) -> Option<u32>
         ensures found { result
             ≡ option_map (λ inode. inode.number) (entry_of self.now dir name.now) }
         ensures whole { IsTree self.now }
     {
-        self.inodes.entry(dir, name)
+        self.names.get(dir, name)
     }
 
-    /// The number of the root of a filesystem; None exactly where there is no such filesystem.
+    /// The number of the root of a filesystem; None exactly if there is no such filesystem.
     pub fn root(&self, fs: u32) -> Option<u32>
         ensures found { result ≡ option_map (λ inode. inode.number) (root_of self.now fs) }
         ensures whole { IsTree self.now }
     {
-        root_number(self.inodes.get(fs.checked_add(1)?))
+        let root = self.inodes.get(&fs.checked_add(1)?)?;
+        if root.fs != fs {
+            return None;
+        }
+        Some(fs + 1)
     }
 
-    /// Draws the next object number; None exactly where 65,535 was the last.
+    /// The number that `draw` gives next; None exactly if none is left.
+    #[tactic(auto, unfolding(crate::specs::Tree::drawn))]
+    pub fn next_number(&self) -> Option<u32>
+        ensures next { result ≡ option_map (λ draw. draw.0) (drawn self.now) }
+        ensures object { IfSome result IsObject }
+    {
+        if self.next > MAX_OBJECT {
+            return None;
+        }
+        Some(self.next)
+    }
+
+    /// Draws the next object number; None exactly if 65,535 was the last.
     #[tactic(auto, unfolding(crate::specs::Tree::drawn))]
     pub fn draw(&mut self) -> Option<u32>
         ensures some { IfSome result (λ number. drawn self.old ≡ Some (number, self.new)) }
@@ -85,7 +103,7 @@ impl Tree {
         ensures kept { IfNone result (self.new ≡ self.old) }
         ensures whole { IsTree self.new }
     {
-        if self.next > GREATEST_OBJECT {
+        if self.next > MAX_OBJECT {
             return None;
         }
         let number = self.next;
@@ -93,9 +111,8 @@ impl Tree {
         Some(number)
     }
 
-    /// Makes a file or a directory in a directory, and gives its number. In this order: ENOENT exactly
-    /// where `dir` is no inode, ENOTDIR where it is a file, EEXIST where it has the name, ENOSPC where no
-    /// number is left.
+    /// Makes a file or a directory in a directory, and gives its number. In this order: ENOENT exactly if
+    /// `dir` is no inode, ENOTDIR if it is a file, EEXIST if it has the name, ENOSPC if no number is left.
     pub fn make(&mut self, dir: u32, name: &[u8], is_dir: bool) -> Result<u32, TreeRefused>
         ensures ok { IfOk result (λ number.
             made self.old dir name.now is_dir ≡ Ok (number, self.new)) }
@@ -104,21 +121,13 @@ impl Tree {
         ensures whole { IsTree self.new }
     {
         let fs = self.free_place(dir, name)?;
-        let name = owned(self.alloc, name)?;
         let number = self.next;
-        let entry = Inode {
-            number,
-            fs,
-            dir: is_dir,
-            parent: Some(dir),
-            name,
-        };
-        self.add(entry, 1)?;
+        self.add(dir, name, About { fs, dir: is_dir })?;
         Ok(number)
     }
 
     /// Makes a filesystem and its root directory, and gives the number of the filesystem; its root has the
-    /// next one. ENOSPC exactly where two numbers don't remain.
+    /// next one. ENOSPC exactly unless two numbers are left.
     #[tactic(auto, unfolding(crate::specs::Tree::made_fs))]
     pub fn make_fs(&mut self) -> Result<u32, TreeRefused>
         ensures ok { IfOk result (λ number. made_fs self.old ≡ Ok (number, self.new)) }
@@ -126,11 +135,11 @@ impl Tree {
         ensures err { OnErr result (self.new ≡ self.old) }
         ensures whole { IsTree self.new }
     {
-        if self.next + 1 > GREATEST_OBJECT {
+        if self.next + 1 > MAX_OBJECT {
             return Err(TreeRefused::No(Errno::Enospc));
         }
         let fs = self.next;
-        self.add(root(self.alloc, fs, fs + 1), 2)?;
+        self.add_fs()?;
         Ok(fs)
     }
 
@@ -149,52 +158,37 @@ impl Tree {
         if self.child(dir, name).is_some() {
             return Err(Errno::Eexist);
         }
-        if self.next > GREATEST_OBJECT {
+        if self.next > MAX_OBJECT {
             return Err(Errno::Enospc);
         }
         Ok(parent.fs)
     }
 
-    // Adds an inode, for which so many numbers are drawn.
-    fn add(&mut self, inode: Inode, count: u32) -> Result<(), NoMemory>
-        requires { CanAdd self.old inode count }
-        ensures ok { OnOk result (self.new ≡ added self.old inode count) }
+    // Adds an inode, which gets the next number, and the entry that leads to it.
+    fn add(&mut self, dir: u32, name: &[u8], about: About) -> Result<(), NoMemory>
+        requires { CanAdd self.old dir name.now about.fs }
+        ensures ok { OnOk result (self.new ≡ with_entry self.old dir name.now about) }
         ensures err { OnErr result (self.new ≡ self.old) }
         ensures whole { IsTree self.new }
     {
-        self.inodes.push(inode)?;
-        self.next += count;
+        self.inodes.reserve()?;
+        self.names.push(dir, name, self.next)?;
+        self.inodes.insert_reserved(self.next, about);
+        self.next += 1;
         Ok(())
     }
-}
 
-// The number of an inode that is the root of its filesystem.
-fn root_number(found: Option<&Inode>) -> Option<u32>
-    ensures { result ≡ root_by (option_copied found.entry) }
-{
-    let inode = found?;
-    if inode.parent.is_some() {
-        return None;
+    // Adds a root directory, whose filesystem gets the next number, and it the one after that.
+    fn add_fs(&mut self) -> Result<(), NoMemory>
+        requires { self.old.next + 1 ≤ max_object }
+        ensures ok { OnOk result (self.new ≡ with_fs self.old) }
+        ensures err { OnErr result (self.new ≡ self.old) }
+        ensures whole { IsTree self.new }
+    {
+        self.inodes.reserve()?;
+        let fs = self.next;
+        self.inodes.insert_reserved(fs + 1, About { fs, dir: true });
+        self.next += 2;
+        Ok(())
     }
-    Some(inode.number)
-}
-
-// The root of a filesystem.
-fn root(alloc: Global, fs: u32, number: u32) -> Inode
-    ensures { result ≡ record { number = number; fs = fs; dir = true; parent = None; name = [] } }
-{
-    Inode {
-        number,
-        fs,
-        dir: true,
-        parent: None,
-        name: Items::from_vec(Vec::new(alloc)),
-    }
-}
-
-// A name of one's own.
-fn owned(alloc: Global, name: &[u8]) -> Result<Items<u8>, NoMemory>
-    ensures { IfOk result (λ copy. copy ≡ name.now) }
-{
-    Ok(Items::from_vec(name.to_vec(alloc)?))
 }

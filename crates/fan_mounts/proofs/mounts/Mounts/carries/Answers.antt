@@ -1,4 +1,4 @@
-use Rattle.fan_mounts.proofs.Indexed.{carries_is}
+use Rattle.fan_mounts.proofs.Carrying.{carries_is}
 use Rattle.fan_mounts.proofs.mounts.Mounts.carries.Goals as goal
 
 pub returns : goal.returns

@@ -3,7 +3,7 @@ use Rattle.std.proofs.lemmas.Iterator.Consumers.{YieldsList-at, YieldsList-from_
 use Rattle.std.proofs.lemmas.Iterator.Splits.{YieldsList-from_slice_split}
 use Rattle.std.proofs.lemmas.List.{map-append}
 use Rattle.std.proofs.lemmas.Result.{err_from_is_err_and}
-use Rattle.fan_mounts.proofs.Reached.{place_holds, place_refused, reached_more}
+use Rattle.fan_mounts.proofs.Walks.{place_holds, place_refused, reached_more}
 use Rattle.fan_mounts.proofs.Walked.{walked_all, walked_front}
 use Rattle.fan_mounts.specs.Reaches.{names_of, place_of, reached}
 use Rattle.fan_mounts.proofs.mounts.Mounts.place.Goals as goal

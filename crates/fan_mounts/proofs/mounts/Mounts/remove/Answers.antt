@@ -1,24 +1,22 @@
-use Rattle.std.proofs.Common.{◌<◌, length, sym}
-use Rattle.fan_mounts.proofs.Indexed.{gone_other, indexed_less, indexed_less_none}
+use Rattle.std.proofs.Common.{rules, tests, ◌≡◌, ◌==◌, not}
+use Rattle.std.proofs.lemmas.Fn.{filter_same}
+use Rattle.fan_mounts.specs.Mounts.{others}
+use Rattle.fan_mounts.proofs.Standing.{indexed_less}
 use Rattle.fan_mounts.proofs.mounts.Mounts.remove.Goals as goal
+use Rattle.fan_mounts.proofs.mounts.Mounts.remove.Goals.{After-retain}
+
+-- the others are left
+left : (c : After-retain) → c.retain.new.self.items ≡ others c.args.number c.self.inside.mounts.items
+left c =
+    filter_same _ (λ mount. not (mount.number == c.args.number)) _
+    (λ mount kept after called. (search (rules, tests), search (rules, tests))) _ _
+    c.retain.ensures.filtered
 
 pub invariant_of-self : goal.invariant_of-self
 invariant_of-self c =
-    let within : c.args.at < length c.self.inside.mounts.items = rw c.self.view_is c.requires.within in
-    rw c.remove-gone.ensures.items
-    (indexed_less c.self.inside.mounts.items c.self.inside.index c.remove.new.self c.args.at
-    c.in-Some.point.mount c.in-Some.point.dir c.remove-gone.result c.self.invariant within
-    (sym c.remove-gone.ensures.value)
-    (gone_other c.self.inside.mounts.items c.args.at c.remove-gone.result within c.remove-gone.ensures.value
-    (rw c.self.view_is c.requires.other))
-    c.in-Some.is c.remove.ensures)
+    rw (left c)
+    (indexed_less c.self.inside.mounts.items c.self.inside.index c.remove_all.new.self c.args.number
+    c.self.invariant c.requires (rw (← c.deref.ensures.value) c.remove_all.ensures))
 
-pub invariant_of-self-in_default : goal.invariant_of-self-in_default
-invariant_of-self-in_default c =
-    let within : c.args.at < length c.self.inside.mounts.items = rw c.self.view_is c.requires.within in
-    rw c.remove-gone.ensures.items
-    (indexed_less_none c.self.inside.mounts.items c.self.inside.index c.args.at c.remove-gone.result
-    c.self.invariant within (sym c.remove-gone.ensures.value)
-    (gone_other c.self.inside.mounts.items c.args.at c.remove-gone.result within c.remove-gone.ensures.value
-    (rw c.self.view_is c.requires.other))
-    c.in_default.is)
+pub returns : goal.returns
+returns c = rw (← c.self.view_is) (left c)

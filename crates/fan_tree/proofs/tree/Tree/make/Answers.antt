@@ -2,7 +2,7 @@
 use Rattle.std.proofs.Common.{ap}
 use Rattle.std.proofs.lemmas.Result.{err_from_is_err_and}
 use Rattle.fan_tree.specs.Tree.{IsRefused, TreeState, made}
-use Rattle.fan_tree.proofs.Changes.{entry_can, free_place_ok, made_at_place, made_refused}
+use Rattle.fan_tree.proofs.Making.{free_place_can, made_at_place, made_refused}
 use Rattle.fan_tree.proofs.tree.Tree.make.Goals as goal
 
 pub returns-in_err-fs-clause-refused : goal.returns-in_err-fs-clause-refused
@@ -17,18 +17,12 @@ returns-in_err-fs-clause-refused c =
 
 pub add-requires : goal.add-requires
 add-requires c =
-    let tree = c.args.self.now in
-    let name = c.args.name.now in
-    let place = free_place_ok tree c.args.dir name c.in_ok-fs.fs c.in_ok-fs.ensures.place in
-    let number = ap (λ (one : TreeState). one.next) c.self.view_is in
-    rw (number, c.in_ok-name.ensures)
-    (entry_can tree c.args.dir name c.args.is_dir c.in_ok-fs.fs c.in_ok-fs.ensures.whole place)
+    free_place_can c.args.self.now c.args.dir c.args.name.now c.in_ok-fs.fs c.in_ok-fs.ensures.whole
+    c.in_ok-fs.ensures.place
 
 pub returns-clause-ok : goal.returns-clause-ok
 returns-clause-ok c =
-    let tree = c.args.self.now in
-    let name = c.args.name.now in
-    let place = free_place_ok tree c.args.dir name c.in_ok-fs.fs c.in_ok-fs.ensures.place in
     let number = ap (λ (one : TreeState). one.next) c.self.view_is in
-    rw (c.in_ok-add.ensures.ok, c.in_ok-name.ensures, number)
-    (made_at_place tree c.args.dir name c.args.is_dir c.in_ok-fs.fs place)
+    rw (c.in_ok-add.ensures.ok, number)
+    (made_at_place c.args.self.now c.args.dir c.args.name.now c.in_ok-fs.fs c.args.is_dir
+    c.in_ok-fs.ensures.place)

@@ -1,21 +1,35 @@
 -- A root is found by its number.
 use Rattle.std.proofs.Common.{◌+◌, ◌≤◌, ◌∙◌, arith, sym}
-use Rattle.std.specs.Option.{option_copied}
-use Rattle.fan_tree.specs.Tree.{IsTree}
-use Rattle.fan_tree.proofs.Roots.{no_root_from, root_found}
+use Rattle.fan_tree.proofs.Found.{no_root, no_root_from, other_root, own_root}
+use Rattle.fan_tree.proofs.Numbered.{about_kept}
 use Rattle.fan_tree.proofs.tree.Tree.root.Goals as goal
 
 pub returns-in_err-checked_add-clause-found : goal.returns-in_err-checked_add-clause-found
 returns-in_err-checked_add-clause-found c =
-    let tree = c.args.self.now in
-    let is : IsTree tree = rw c.self.view_is at c.self.invariant in
     let above : 65536 ≤ c.args.fs + 1 = omega (arith, c.in_err-checked_add.ensures) in
-    c.from_residual.ensures ∙ sym (no_root_from tree c.args.fs is above)
+    rw (← c.self.view_is)
+    (c.from_residual.ensures ∙ sym (no_root_from _ c.args.fs c.self.invariant above))
+
+pub returns-in_err-root-clause-found : goal.returns-in_err-root-clause-found
+returns-in_err-root-clause-found c =
+    let number = c.args.fs + 1 in
+    let none = rw c.in_ok-checked_add.ensures.1 at c.in_err-root.ensures.value in
+    rw (← c.self.view_is)
+    (c.from_residual-in_err-root.ensures
+    ∙ sym (no_root _ c.args.fs c.self.invariant (none ∙ about_kept c.self.inside.inodes.entries number)))
+
+pub returns-then-root-fs-clause-found : goal.returns-then-root-fs-clause-found
+returns-then-root-fs-clause-found c =
+    let number = c.args.fs + 1 in
+    let some = rw c.in_ok-checked_add.ensures.1 at c.in_ok-root.ensures.value in
+    rw (← c.self.view_is)
+    (sym (other_root _ c.args.fs c.in_ok-root.root.now c.self.invariant
+    (some ∙ about_kept c.self.inside.inodes.entries number) c.if-root-fs.true))
 
 pub returns-clause-found : goal.returns-clause-found
 returns-clause-found c =
-    let number = c.in_ok-checked_add.field-0 in
-    let found = option_copied c.get.result in
-    let same = c.in_ok-checked_add.ensures.1 in
-    c.root_number.ensures
-    ∙ root_found _ c.args.self.now c.args.fs number found c.self.view_is c.self.invariant same c.get.ensures
+    let number = c.args.fs + 1 in
+    let some = rw c.in_ok-checked_add.ensures.1 at c.in_ok-root.ensures.value in
+    rw (← c.self.view_is)
+    (sym (own_root _ c.args.fs c.in_ok-root.root.now c.self.invariant
+    (some ∙ about_kept c.self.inside.inodes.entries number) c.if-root-fs.false))
