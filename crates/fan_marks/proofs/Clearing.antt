@@ -1,371 +1,230 @@
--- A file that is written to, mark by mark.
-use Rattle.std.proofs.Common.{◌≡◌, ◌∙◌, ℕ, ◌+◌, ◌*◌, ◌<◌, ◌≤◌, List, [], ◌∷◌, ◌++◌, Bool, true, false, cond, drop, get_or, length, map, take, Some, None, sym, refl, ap, subst, arith, append_assoc}
-use Rattle.std.specs.Prelude.{All, count_by, filter, find, not, ◌&&◌, ◌==◌, nat_lt}
-use Rattle.std.specs.List.{list_any}
+-- A file that is written to: its marks are emptied one after another.
+use Rattle.std.proofs.Common.{◌≡◌, ◌∙◌, ℕ, ◌+◌, ◌<◌, ◌≤◌, Bool, true, false, cond, List, [], ◌∷◌, ◌++◌, Option, Some, None, get_or, map, refl, ap, sym, subst, arith}
+use Rattle.std.specs.Prelude.{All, count_by, filter, find, nat_lt, not, ◌==◌, ◌&&◌}
+use Rattle.std.specs.BTreeMap.{is_at}
+use Rattle.std.specs.List.{Contains}
 use Rattle.std.proofs.lemmas.Bool.Decides.{nat_tests}
 use Rattle.std.proofs.lemmas.List.{map-append}
-use Rattle.std.proofs.lemmas.List.Elements.{All-append, All-cons, All-head, All-nil, All-tail, All-weaker, filter-append}
-use Rattle.std.proofs.lemmas.List.Sums.{length-filter}
+use Rattle.std.proofs.lemmas.List.Elements.{All-contains_itself, All-cons, All-nil, All-weaker, filter-append}
+use Rattle.std.proofs.lemmas.List.Folds.{map_fixed}
+use Rattle.fan_lists.proofs.Counts.{count_from_none, none_from_count}
+use Rattle.fan_lists.proofs.Filters.{filter_all}
+use Rattle.fan_lists.proofs.Finds.{All-find, find_none}
+use Rattle.fan_lists.proofs.Pairs.{Contains-filter, Contains-map}
+use Rattle.fan_bits.specs.declared.change.Change.TheVariants.{Clear}
 use Rattle.fan_bits.specs.declared.mark.Mark.{Mark}
-use Rattle.fan_bits.specs.Marks.{IsMark, IsMarkList, Rises, cleared, is_before, is_behind, listed, next_on, order_of, standing, stands}
-use Rattle.fan_bits.specs.Words.{rank_of}
-use Rattle.fan_bits.specs.Marks.{same_mark}
-use Rattle.fan_marks.specs.Made.{forgets}
-use Rattle.fan_marks.specs.Spliced.{spliced}
-use Rattle.fan_marks.specs.Which.{IsAmong}
-use Rattle.fan_marks.proofs.Behind.{find_on}
-use Rattle.fan_marks.proofs.Changing.{IsMarkList-placed}
-use Rattle.fan_marks.proofs.Counting.{among, around, count_replaced}
-use Rattle.fan_marks.proofs.Forgotten.{none_forgets}
-use Rattle.fan_marks.proofs.Found.{class_all}
-use Rattle.fan_marks.proofs.Indexed.{differs_later, first_here, itself_before, later_before, or_more, place_found}
-use Rattle.fan_marks.proofs.Listed.{AgreesWith}
-use Rattle.fan_marks.proofs.Parts.{before_only, filter_all, filter_none, not_same}
-use Rattle.fan_marks.proofs.Putting.{IsPut, standing_is}
-use Rattle.fan_marks.proofs.Rising.{IsBefore}
-use Rattle.fan_marks.proofs.Same.{same_mark_self}
+use Rattle.fan_bits.specs.Marks.{IsMark, IsMarkList, Rises, changed, cleared, listed, next_on, order_of, standing, stands}
+use Rattle.fan_marks.specs.declared.keys.ObjectKey.{ObjectKey}
+use Rattle.fan_marks.specs.Keys.{before, behind, between, has_object_key, object_cmp, object_key, replaced}
+use Rattle.fan_marks.specs.Selected.{forgets}
+use Rattle.fan_marks.specs.Stored.{IsStorable}
+use Rattle.fan_marks.specs.Summary.{IsMade, summary_of}
+use Rattle.fan_marks.proofs.Found.{IsNext, none_next, none_passes}
+use Rattle.fan_marks.proofs.MarkLists.{All-beside}
+use Rattle.fan_marks.proofs.Orders.{object_itself, object_same}
+use Rattle.fan_marks.proofs.Replaced.{count-replaced, split_at}
+use Rattle.fan_marks.proofs.StoredLemmas.{storable_at}
+use Rattle.fan_marks.proofs.Summaries.{is_made}
 
--- the first mark on an object behind an order: none of the list stands between that order and its own
-pub record IsNext (marks : List Mark) (object after : ℕ) (mark : Mark) : Type 0 where
-  pub among : IsAmong marks mark
-  pub on : mark.object ≡ object
-  pub behind : after < order_of mark
-  pub first : All (λ other. is_behind object (order_of mark) other ≡ false
-      → is_behind object after other ≡ true
-      → other ≡ mark) marks
+-- a mark without its ignored set
+abbrev pub emptied : Mark → Mark
+emptied mark = record mark { ignored = 0 }
 
-test_on : (object after : ℕ) (mark : Mark) → (mark.object == object && nat_lt after (order_of mark)) ≡ true
-    → (mark.object ≡ object) × (after < order_of mark)
-test_on object after mark is = (grind (arith, nat_tests), grind (arith, nat_tests))
+emptied_is : (mark : Mark) → mark.ignored ≡ 0 → emptied mark ≡ mark
+emptied_is mark none = rw none refl
 
-behind_first : (object : ℕ) (x y : Mark) → x.object ≡ object → IsBefore x y
-    → is_behind object (order_of x) y ≡ true
-behind_first object x y on next = grind (arith, nat_tests)
+module _ (object : ℕ) where
+  -- a mark that forgets nothing stays as it is
+  pub cleared_kept : (mark : Mark) → forgets object mark ≡ false → cleared object mark ≡ mark
+  cleared_kept mark keeps = by (mark.object == object && not mark.survives) refl
+    where
+      by : (b : Bool) → (mark.object == object && not mark.survives) ≡ b → cond b (emptied mark) mark ≡ mark
+      by true here = emptied_is mark (grind (arith, nat_tests, here, keeps))
+      by false other = refl
 
-between : (object after order : ℕ) (x : Mark) → (x.object == object && nat_lt after (order_of x)) ≡ false
-    → is_behind object order x ≡ false → is_behind object after x ≡ true → ⊥
-between object after order x fails out is = grind (arith, nat_tests)
+  -- and one that is cleared forgets nothing any more
+  cleared_forgets : (mark : Mark) → forgets object (cleared object mark) ≡ false
+  cleared_forgets mark = by (mark.object == object && not mark.survives) refl
+    where
+      by : (b : Bool) → (mark.object == object && not mark.survives) ≡ b
+          → forgets object (cond b (emptied mark) mark) ≡ false
+      by true here = grind (arith, nat_tests)
+      by false other = rw other refl
 
-contrary : (a : Bool) → a ≡ true → a ≡ false → ⊥
-contrary true is fails = absurd cc
-contrary false is fails = absurd cc
+  -- the marks after the file was written to
+  abbrev pub after_write : List Mark → List Mark
+  after_write marks = filter stands (map (cleared object) marks)
 
-next_found : (object after : ℕ) (marks : List Mark) (mark : Mark) → Rises marks
-    → find (λ mark. mark.object == object && nat_lt after (order_of mark)) marks ≡ Some mark
-    → IsNext marks object after mark
-next_found object after [] mark rises found = absurd cc
-next_found object after (x ∷ xs) mark rises found =
-    let test : Mark → Bool = λ mark. mark.object == object && nat_lt after (order_of mark) in
-    let First : Mark → Mark → Type 0 = λ mark other. is_behind object (order_of mark) other ≡ false
-    → is_behind object after other ≡ true → other ≡ mark in
-    elim (test x) as (λ is. test x ≡ is → cond is (Some x) (find test xs) ≡ Some mark
-    → IsNext (x ∷ xs) object after mark) [
-      | true ↦ λ is found.
-          let one : x ≡ mark = cc in
-          let tells = test_on object after x is in
-          subst (IsNext (x ∷ xs) object after) one (record {
-            among = rw (same_mark_self x) refl;
-            on = tells.0;
-            behind = tells.1;
-            first = All-cons (First x) x xs (λ out more. refl)
-                (All-weaker (IsBefore x) (First x)
-                (λ y next out more. absurd
-                (contrary (is_behind object (order_of x) y) (behind_first object x y tells.0 next) out))
-                xs rises.0);
-          })
-      | false ↦ λ fails found.
-          let rest = next_found object after xs mark rises.1 found in
-          record {
-            among = or_more (same_mark mark x) (list_any (same_mark mark) xs) rest.among;
-            on = rest.on;
-            behind = rest.behind;
-            first = All-cons (First mark) x xs
-                (λ out more. absurd (between object after (order_of mark) x fails out more)) rest.first;
-          }
-    ] refl found
+  write-between : (front : List Mark) (here : Option Mark) (back : List Mark)
+      → after_write (between front here back) ≡ after_write front ++ after_write
+      (listed here) ++ after_write back
+  write-between front here back =
+      let clear : List Mark → List Mark = map (cleared object) in
+      ap (filter stands) (map-append (cleared object) (front ++ listed here) back
+      ∙ ap (λ first. first ++ clear back) (map-append (cleared object) front (listed here)))
+      ∙ filter-append stands (clear front ++ clear (listed here)) (clear back)
+      ∙ ap (λ first. first ++ filter stands (clear back)) (filter-append stands (clear front) (clear
+      (listed here)))
 
--- what `next` finds is the next one
-pub next_is : (marks : List Mark) (object after : ℕ) (mark : Mark) → Rises marks
-    → next_on marks object after ≡ Some mark → IsNext marks object after mark
-next_is marks object after mark rises found =
-    next_found object after marks mark rises (sym (find_on object after marks) ∙ found)
+  -- what is left of a mark is left of it as well when it is cleared before
+  write_twice : (mark : Mark) → after_write (listed (standing (cleared object mark))) ≡ after_write
+      (mark ∷ [])
+  write_twice mark = by (stands (cleared object mark)) refl
+    where
+      by : (b : Bool) → stands (cleared object mark) ≡ b
+          → after_write (listed (cond b (Some (cleared object mark)) None))
+          ≡ cond b (cleared object mark ∷ []) []
+      by true is =
+          let again = cleared_kept (cleared object mark) (cleared_forgets mark) in
+          ap (λ (one : Mark). cond (stands one) (one ∷ []) []) again
+          ∙ ap (λ test. cond test (cleared object mark ∷ []) []) is
+      by false is = refl
 
--- a mark on a written file up to an order forgets nothing any more
-abbrev pub IsDone : ℕ → ℕ → Mark → Type 0
-IsDone object after mark = is_behind object after mark ≡ false → forgets object mark ≡ false
+  nothing_left : (mark : Mark) → All (λ one. forgets object one ≡ false) (listed (standing
+      (cleared object mark)))
+  nothing_left mark = by (stands (cleared object mark))
+    where
+      P : Mark → Type 0
+      P one = forgets object one ≡ false
 
-done_more : (object after order : ℕ) (m mark : Mark) → IsDone object after m
-    → (is_behind object order m ≡ false → is_behind object after m ≡ true → m ≡ mark)
-    → (m ≡ mark → forgets object m ≡ false) → IsDone object order m
-done_more object after order m mark done first its out =
-    elim (is_behind object after m) as (λ test. is_behind object after m ≡ test → forgets object m ≡ false) [
-      | true ↦ λ is. its (first out is)
-      | false ↦ λ fails. done fails
-    ] refl
+      by : (b : Bool) → All P (listed (cond b (Some (cleared object mark)) None))
+      by true = All-cons P (cleared object mark) [] (cleared_forgets mark) (All-nil P)
+      by false = All-nil P
 
--- the next mark forgets nothing
-pub done_kept : (marks : List Mark) (object after : ℕ) (mark : Mark) → IsNext marks object after mark
-    → forgets object mark ≡ false → All (IsDone object after) marks
-    → All (IsDone object (order_of mark)) marks
-done_kept marks object after mark next fails done =
-    λ k d within. done_more object after (order_of mark) (get_or marks k d) mark (done k d within)
-    (next.first k d within) (λ same. rw same fails)
+-- a mark that forgets nothing stands where it stood
+pub unchanged : (marks : List Mark) (mark : Mark) → IsMarkList marks
+    → find (has_object_key (object_key mark)) marks ≡ Some mark → forgets mark.object mark ≡ false
+    → marks ≡ replaced marks (object_key mark) (standing (cleared mark.object mark))
+unchanged marks mark list found keeps =
+    let key = object_key mark in
+    let is = All-find (has_object_key key) IsMark marks mark list.each found in
+    let same = ap standing (cleared_kept mark.object mark keeps)
+    ∙ ap (λ test. cond test (Some mark) None) is.whole in
+    split_at key marks (Some mark) list.rises found ∙ ap (replaced marks key) (sym same)
 
--- what holds of all others, and of what takes a mark's place
-All-replaced : (P Q : Mark → Type 0) (marks : List Mark) (mark : Mark) (others : List Mark) → Rises marks
-    → IsAmong marks mark → ((m : Mark) → Q m → same_mark mark m ≡ false → P m) → All Q marks → All P others
-    → All P (spliced marks (length (filter (is_before mark.object (order_of mark)) marks)) 1 others)
-unfolding spliced
-All-replaced P Q [] mark others rises is each all new = absurd cc
-All-replaced P Q (x ∷ xs) mark others rises is each all new =
-    let p : Mark → Bool = is_before mark.object (order_of mark) in
-    elim (p x) as (λ test. p x ≡ test
-    → All P (spliced (x ∷ xs) (length (cond test (x ∷ filter p xs) (filter p xs))) 1 others)) [
-      | true ↦ λ passes. let other : same_mark mark x ≡ false =
-          not_same p mark x (itself_before mark) passes in
-          All-cons P x (spliced xs (length (filter p xs)) 1 others) (each x (All-head Q x xs all) other)
-          (All-replaced P Q xs mark others rises.1 (rw other at is) each (All-tail Q x xs all) new)
-      | false ↦ λ fails.
-          let none : All (λ y. p y ≡ false) xs =
-          All-weaker (IsBefore x) (λ y. p y ≡ false)
-          (λ y next. later_before mark.object (order_of mark) x y next fails) xs rises.0 in
-          let one : x ≡ mark = first_here x mark xs rises is fails in
-          let rest : All Q xs = All-tail Q x xs all in
-          rw (filter_none p xs none) (All-append P others xs new
-          (λ k d within. each (get_or xs k d) (rest k d within)
-          (differs_later mark (get_or xs k d) (rw one at (rises.0 k d within)))))
-    ] refl
-
-cleared_remembers : (object : ℕ) (mark : Mark) → forgets object (cleared object mark) ≡ false
-cleared_remembers object mark =
-    elim (mark.object == object && not mark.survives) as
-    (λ test. (mark.object == object && not mark.survives) ≡ test
-    → forgets object (cond test (record mark { ignored = 0 }) mark) ≡ false) [
-      | true ↦ λ is. rw is refl
-      | false ↦ λ is. rw is refl
-    ] refl
-
-standing_all : (P : Mark → Type 0) (mark : Mark) → P mark → All P (listed (standing mark))
-standing_all P mark is =
-    elim (stands mark) as (λ test. All P (listed (cond test (Some mark) None))) [
-      | true ↦ All-cons P mark [] is (All-nil P)
-      | false ↦ All-nil P
-    ]
-
--- the next mark is cleared
-pub done_cleared : (marks : List Mark) (object after : ℕ) (mark : Mark) → Rises marks
-    → IsNext marks object after mark → All (IsDone object after) marks
-    → All (IsDone object (order_of mark))
-    (spliced marks (length (filter (is_before mark.object (order_of mark)) marks)) 1
-    (listed (standing (cleared object mark))))
-done_cleared marks object after mark rises next done =
-    let Q : Mark → Type 0 = λ m. IsDone object after m
-    × (is_behind object (order_of mark) m ≡ false → is_behind object after m ≡ true → m ≡ mark) in
-    All-replaced (IsDone object (order_of mark)) Q marks mark (listed (standing (cleared object mark))) rises
-    next.among
-    (λ m its other. done_more object after (order_of mark) m mark its.0 its.1
-    (λ same. absurd (contrary (same_mark mark m) (rw same (same_mark_self mark)) other)))
-    (λ k d within. (done k d within, next.first k d within))
-    (standing_all (IsDone object (order_of mark)) (cleared object mark)
-    (λ out. cleared_remembers object mark))
-
-behind_own : (mark y : Mark) → IsBefore mark y → is_behind mark.object (order_of mark) y ≡ true
-behind_own mark y next = grind (arith, nat_tests)
-
-not_behind_own : (mark : Mark) → is_behind mark.object (order_of mark) mark ≡ false
-not_behind_own mark = grind (arith, nat_tests)
-
--- what takes a mark's place stands between those before it and those behind it
-spliced_placed : (marks : List Mark) (mark : Mark) (others : List Mark) → Rises marks → IsAmong marks mark
-    → spliced marks (length (filter (is_before mark.object (order_of mark)) marks)) 1 others
-    ≡ filter (is_before mark.object (order_of mark)) marks ++ others
-    ++ filter (is_behind mark.object (order_of mark)) marks
-unfolding spliced
-spliced_placed [] mark others rises is = absurd cc
-spliced_placed (x ∷ xs) mark others rises is =
-    let p : Mark → Bool = is_before mark.object (order_of mark) in
-    let q : Mark → Bool = is_behind mark.object (order_of mark) in
-    elim (p x) as (λ test. p x ≡ test
-    → spliced (x ∷ xs) (length (cond test (x ∷ filter p xs) (filter p xs))) 1 others
-    ≡ cond test (x ∷ filter p xs) (filter p xs) ++ others ++ filter q (x ∷ xs)) [
-      | true ↦ λ passes.
-          let other : same_mark mark x ≡ false = not_same p mark x (itself_before mark) passes in
-          let out : q x ≡ false = (before_only mark.object (order_of mark) x passes).1 in
-          rw out (ap (λ more. x ∷ more) (spliced_placed xs mark others rises.1 (rw other at is)))
-      | false ↦ λ fails.
-          let none : All (λ y. p y ≡ false) xs =
-          All-weaker (IsBefore x) (λ y. p y ≡ false)
-          (λ y next. later_before mark.object (order_of mark) x y next fails) xs rises.0 in
-          let one : x ≡ mark = first_here x mark xs rises is fails in
-          let out : q x ≡ false = rw one (not_behind_own mark) in
-          let all : All (λ y. q y ≡ true) xs =
-          All-weaker (IsBefore x) (λ y. q y ≡ true)
-          (λ y next. behind_own mark y (rw one at next)) xs rises.0 in
-          rw (filter_none p xs none, out, filter_all q xs all) refl
-    ] refl
-
-cleared_put : (object : ℕ) (mark : Mark) → IsMark mark
-    → IsPut mark.group mark.class mark.object (cleared object mark)
-cleared_put object mark is =
-    elim (mark.object == object && not mark.survives) as
-    (λ test. IsPut mark.group mark.class mark.object (cond test (record mark { ignored = 0 }) mark)) [
-      | true ↦ record {
-        group_is = refl;
-        class_is = refl;
-        object_is = refl;
-        mask = is.mask;
+-- a mark without its ignored set can take its place, if it stands
+pub storable_emptied : (marks : List Mark) (mark : Mark) → IsMarkList marks
+    → find (has_object_key (object_key mark)) marks ≡ Some mark → stands (emptied mark) ≡ true
+    → IsStorable marks (emptied mark)
+storable_emptied marks mark list found whole =
+    let fits = (storable_at marks (object_key mark) mark list found).0 in
+    record {
+      is = record {
+        group = fits.is.group;
+        object = fits.is.object;
+        mask = fits.is.mask;
         ignored = omega arith;
-      }
-      | false ↦ record {
-        group_is = refl;
-        class_is = refl;
-        object_is = refl;
-        mask = is.mask;
-        ignored = is.ignored;
-      }
-    ]
+        whole = whole;
+      };
+      agrees = fits.agrees;
+    }
 
--- with a mark cleared, or gone, a list of marks is still one
-pub IsMarkList-forgot : (marks : List Mark) (object : ℕ) (mark : Mark) → IsMarkList marks → IsAmong marks mark
-    → IsMarkList (spliced marks (length (filter (is_before mark.object (order_of mark)) marks)) 1
-    (listed (standing (cleared object mark))))
-IsMarkList-forgot marks object mark list is =
-    let its : IsMark mark = among IsMark marks mark is list.each in
-    let agrees : AgreesWith marks mark = among (AgreesWith marks) marks mark is list.classes in
-    rw (spliced_placed marks mark (listed (standing (cleared object mark))) list.rises is)
-    (IsMarkList-placed marks mark.group mark.class mark.object (standing (cleared object mark)) its.group
-    its.object
-    (class_all marks mark mark.group mark.class agrees refl refl)
-    (standing_is (cleared object mark) mark.group mark.class mark.object (cleared_put object mark its)) list)
+-- a mark on an object up to an order forgets nothing any more
+abbrev pub IsDone : ℕ → ℕ → Mark → Type 0
+IsDone object after mark = mark.object ≡ object → order_of mark ≤ after → forgets object mark ≡ false
 
-cleared_twice : (object : ℕ) (mark : Mark) → cleared object (cleared object mark) ≡ cleared object mark
-cleared_twice object mark =
-    elim (mark.object == object && not mark.survives) as
-    (λ test. (mark.object == object && not mark.survives) ≡ test
-    → cleared object (cond test (record mark { ignored = 0 }) mark)
-    ≡ cond test (record mark { ignored = 0 }) mark) [
-      | true ↦ λ is. rw is refl
-      | false ↦ λ is. rw is refl
-    ] refl
+module _ (object after : ℕ) (marks : List Mark) (rises : Rises marks) (mark : Mark)
+    (next : IsNext marks object after mark) where
+  abbrev key : ObjectKey
+  key = object_key mark
 
--- what a written file leaves of a list
-abbrev cleared_list : ℕ → List Mark → List Mark
-cleared_list object marks = filter stands (map (cleared object) marks)
+  abbrev left : Option Mark
+  left = standing (cleared object mark)
 
-cleared_list-append : (object : ℕ) (xs ys : List Mark)
-    → cleared_list object (xs ++ ys) ≡ cleared_list object xs ++ cleared_list object ys
-cleared_list-append object xs ys =
-    ap (filter stands) (map-append (cleared object) xs ys)
-    ∙ filter-append stands (map (cleared object) xs) (map (cleared object) ys)
+  -- clearing one mark changes nothing of what is made of all
+  pub write_one : filter stands (map (cleared object) (replaced marks key left)) ≡ after_write object marks
+  write_one =
+      write-between object (before key marks) left (behind key marks)
+      ∙ ap (λ here. after_write object (before key marks) ++ here ++ after_write object (behind key marks))
+      (write_twice object mark)
+      ∙ sym (write-between object (before key marks) (Some mark) (behind key marks))
+      ∙ sym (ap (after_write object) (split_at key marks (Some mark) rises next.keyed))
 
-forgot_one : (object : ℕ) (mark : Mark)
-    → cleared_list object (listed (standing (cleared object mark))) ≡ cleared_list object (mark ∷ [])
-forgot_one object mark =
-    elim (stands (cleared object mark)) as
-    (λ test. stands (cleared object mark) ≡ test
-    → cleared_list object (listed (cond test (Some (cleared object mark)) None))
-    ≡ cond test (cleared object mark ∷ []) []) [
-      | true ↦ λ is. rw (cleared_twice object mark, is) refl
-      | false ↦ λ is. refl
-    ] refl
+  -- there is one ignored set less, if it had one to lose
+  pub count_one : count_by (forgets object) (replaced marks key left) + cond (forgets object mark) 1 0
+      ≡ count_by (forgets object) marks
+  count_one =
+      let none = count_from_none (forgets object) (listed left)
+      (find_none (forgets object) (listed left) (nothing_left object mark)) in
+      omega (arith, none, count-replaced key marks rises (forgets object) (Some mark) left next.keyed)
 
--- what a written file leaves of it is the same
-pub forgot_made : (marks : List Mark) (object : ℕ) (mark : Mark) → Rises marks → IsAmong marks mark
-    → filter stands (map (cleared object)
-    (spliced marks (length (filter (is_before mark.object (order_of mark)) marks)) 1
-    (listed (standing (cleared object mark))))) ≡ filter stands (map (cleared object) marks)
-unfolding spliced
-forgot_made marks object mark rises is =
-    let at = length (filter (is_before mark.object (order_of mark)) marks) in
-    let front = take at marks in
-    let back = drop 1 (drop at marks) in
-    let others = listed (standing (cleared object mark)) in
-    let all : marks ≡ front ++ (mark ∷ back) = around marks at mark (place_found marks mark rises is) in
-    let whole : cleared_list object marks
-    ≡ cleared_list object front ++ (cleared_list object (mark ∷ []) ++ cleared_list object back) =
-    ap (cleared_list object) all ∙ cleared_list-append object front (mark ∷ back)
-    ∙ ap (λ more. cleared_list object front ++ more) (cleared_list-append object (mark ∷ []) back) in
-    cleared_list-append object (front ++ others) back
-    ∙ ap (λ more. more ++ cleared_list object back) (cleared_list-append object front others)
-    ∙ ap (λ more. cleared_list object front ++ more ++ cleared_list object back) (forgot_one object mark)
-    ∙ append_assoc (cleared_list object front) (cleared_list object (mark ∷ [])) (cleared_list object back)
-    ∙ sym whole
+  -- and the marks up to it are done
+  pub done_one : All (IsDone object after) marks → All (IsDone object (order_of mark))
+      (replaced marks key left)
+  done_one done =
+      All-beside key marks (IsDone object (order_of mark)) left
+      (λ k d within apart here upto. other (get_or marks k d) apart here upto (done k d within here)
+      (next.first k d within here))
+      (All-weaker (λ one. forgets object one ≡ false) (IsDone object (order_of mark)) (λ one is here upto. is)
+      (listed left) (nothing_left object mark))
+    where
+      other : (one : Mark) → has_object_key key one ≡ false → one.object ≡ object
+          → order_of one ≤ order_of mark
+          → (order_of one ≤ after → forgets object one ≡ false)
+          → (after < order_of one → order_of mark ≤ order_of one) → forgets object one ≡ false
+      other one apart here upto done first = by (nat_lt after (order_of one)) refl
+        where
+          by : (b : Bool) → nat_lt after (order_of one) ≡ b → forgets object one ≡ false
+          by false most = done (grind (arith, nat_tests, most))
+          by true more =
+              let later : after < order_of one = grind (arith, nat_tests, more) in
+              let order : order_of one ≡ order_of mark = omega (arith, first later, upto) in
+              let same = object_same one mark (here ∙ sym next.here) order in
+              absurd (let both = sym apart ∙ ap (λ (one : ObjectKey). is_at (object_cmp key) one) same
+              ∙ object_itself mark in cc)
 
-none_count : (p : Mark → Bool) (marks : List Mark) → All (λ mark. p mark ≡ false) marks → count_by p marks ≡ 0
-none_count p marks fail = sym (length-filter p marks) ∙ ap length (filter_none p marks fail)
+-- no mark of a list has the order 0
+pub done_start : (object : ℕ) (marks : List Mark) → All IsMark marks → All (IsDone object 0) marks
+done_start object marks each =
+    All-weaker IsMark (IsDone object 0) (λ mark is here upto. none mark is upto) marks each
+  where
+    none : (mark : Mark) → IsMark mark → order_of mark ≤ 0 → forgets object mark ≡ false
+    none mark is upto = let group = is.group.0 in absurd (omega arith)
 
--- one mark less forgets
-pub forgot_count : (marks : List Mark) (object : ℕ) (mark : Mark) → Rises marks → IsAmong marks mark
-    → forgets object mark ≡ true
-    → 1 + count_by (forgets object)
-    (spliced marks (length (filter (is_before mark.object (order_of mark)) marks)) 1
-    (listed (standing (cleared object mark)))) ≡ count_by (forgets object) marks
-forgot_count marks object mark rises is its =
-    let others = listed (standing (cleared object mark)) in
-    let at = length (filter (is_before mark.object (order_of mark)) marks) in
-    let none : count_by (forgets object) others ≡ 0 =
-    none_count (forgets object) others
-    (standing_all (λ m. forgets object m ≡ false) (cleared object mark) (cleared_remembers object mark)) in
-    let one : count_by (forgets object) (mark ∷ []) ≡ 1 = rw its refl in
-    omega (
-      arith,
-      one,
-      none,
-      count_replaced (forgets object) marks at mark others (place_found marks mark rises is),
-    )
-
-none_found : (p : Mark → Bool) (marks : List Mark) → find p marks ≡ None → All (λ mark. p mark ≡ false) marks
-none_found p [] none = All-nil (λ mark. p mark ≡ false)
-none_found p (x ∷ xs) none =
-    elim (p x) as (λ test. p x ≡ test → cond test (Some x) (find p xs) ≡ None
-    → All (λ mark. p mark ≡ false) (x ∷ xs)) [
-      | true ↦ λ is none. absurd cc
-      | false ↦ λ fails none. All-cons (λ mark. p mark ≡ false) x xs fails (none_found p xs none)
-    ] refl none
-
-not_behind : (object after : ℕ) (mark : Mark) → (mark.object == object) ≡ true
-    → (mark.object == object && nat_lt after (order_of mark)) ≡ false → is_behind object after mark ≡ false
-not_behind object after mark here fails = grind (arith, nat_tests)
-
-remembers_now : (object after : ℕ) (mark : Mark) → IsDone object after mark
-    → (mark.object == object && nat_lt after (order_of mark)) ≡ false → forgets object mark ≡ false
-remembers_now object after mark done fails =
-    elim (mark.object == object) as (λ test. (mark.object == object) ≡ test → forgets object mark ≡ false) [
-      | true ↦ λ here. done (not_behind object after mark here fails)
-      | false ↦ λ other. rw other refl
-    ] refl
-
-none_behind : (marks : List Mark) (object after : ℕ) → next_on marks object after ≡ None
+-- where no mark is left behind the last, none has anything to forget
+done_end : (object after : ℕ) (marks : List Mark) → next_on marks object after ≡ None
     → All (IsDone object after) marks → All (λ mark. forgets object mark ≡ false) marks
-none_behind marks object after none done =
-    let test : Mark → Bool = λ mark. mark.object == object && nat_lt after (order_of mark) in
-    let fail : All (λ mark. test mark ≡ false) marks =
-    none_found test marks (sym (find_on object after marks) ∙ none) in
-    λ k d within. remembers_now object after (get_or marks k d) (done k d within) (fail k d within)
+done_end object after marks none done k d within =
+    one (get_or marks k d) (done k d within) (none_next object after marks none k d within)
+  where
+    one : (mark : Mark) → IsDone object after mark → (mark.object ≡ object → order_of mark ≤ after)
+        → forgets object mark ≡ false
+    one mark is upto = by (mark.object == object) refl
+      where
+        by : (b : Bool) → (mark.object == object) ≡ b → forgets object mark ≡ false
+        by false other = grind (arith, other)
+        by true here = let same : mark.object ≡ object = grind (arith, nat_tests, here) in is same (upto same)
 
--- where there is no next mark, nothing is left to be done
-pub all_done : (marks : List Mark) (object after : ℕ) → IsMarkList marks → next_on marks object after ≡ None
-    → All (IsDone object after) marks
-    → (marks ≡ filter stands (map (cleared object) marks)) × (count_by (forgets object) marks ≡ 0)
-all_done marks object after list none done =
-    let remember = none_behind marks object after none done in
-    let count : count_by (forgets object) marks ≡ 0 = none_count (forgets object) marks remember in
-    (sym (none_forgets object marks list (length-filter (forgets object) marks ∙ count)), count)
+-- marks of which none has anything to forget stay as they are
+stays : (object : ℕ) (marks : List Mark) → All IsMark marks → All (λ mark. forgets object mark ≡ false) marks
+    → after_write object marks ≡ marks
+stays object marks each keeps =
+    ap (filter stands) (map_fixed (cleared object) marks
+    (All-weaker (λ mark. forgets object mark ≡ false) (λ mark. cleared object mark
+    ≡ mark) (cleared_kept object)
+    marks keeps))
+    ∙ filter_all stands marks (All-weaker IsMark (λ mark. stands mark
+    ≡ true) (λ mark is. is.whole) marks each)
 
-order_above : (rank group : ℕ) → 1 ≤ group → 0 < rank * 4294967296 + group
-order_above rank group some = omega arith
-
-first_behind : (object : ℕ) (mark : Mark) → 0 < order_of mark → (mark.object == object) ≡ true
-    → is_behind object 0 mark ≡ false → ⊥
-first_behind object mark some here out = grind (arith, nat_tests)
-
--- before the first mark nothing has to be done yet
-pub none_done : (marks : List Mark) (object : ℕ) → IsMarkList marks → All (IsDone object 0) marks
-none_done marks object list = λ k d within out.
-    let mark = get_or marks k d in
-    let some : 0 < order_of mark =
-    order_above (rank_of mark.class) mark.group (list.each k d within).group.0 in
-    elim (mark.object == object) as (λ test. (mark.object == object) ≡ test → forgets object mark ≡ false) [
-      | true ↦ λ here. absurd (first_behind object mark some here out)
-      | false ↦ λ other. rw other refl
-    ] refl
+-- the summary of a write
+pub clear_made : (object after : ℕ) (old new : List Mark) (count : ℕ) → All IsMark old → All IsMark new
+    → next_on new object after ≡ None → All (IsDone object after) new
+    → after_write object new ≡ after_write object old
+    → count + count_by (forgets object) new ≡ count_by (forgets object) old
+    → IsMade old new (Clear object) (summary_of count)
+unfolding changed
+clear_made object after old new count each each_new none done made counts =
+    let keeps = done_end object after new none done in
+    let is : new ≡ after_write object old = sym (stays object new each_new keeps) ∙ made in
+    let zero = count_from_none (forgets object) new (find_none (forgets object) new keeps) in
+    is_made (forgets object) old new keeps
+    (λ k d within fails. let mark = get_or old k d in
+    let same = cleared_kept object mark fails in
+    subst (λ marks. Contains marks mark) (sym is)
+    (Contains-filter stands mark (map (cleared object) old)
+    (subst (Contains (map (cleared object) old)) same
+    (Contains-map (cleared object) mark old (All-contains_itself old k d within)))
+    (each k d within).whole))
+    (Clear object) count is (omega (arith, counts, zero))
+    (λ zero. is ∙ stays object old each
+    (none_passes (forgets object) old (none_from_count (forgets object) old zero)))

@@ -1,7 +1,6 @@
 pub mod Book
-pub mod Cuts
-pub mod Made
-pub mod Parts
-pub mod Spliced
-pub mod Tree
-pub mod Which
+pub mod Keys
+pub mod Selected
+pub mod Slot
+pub mod Stored
+pub mod Summary

@@ -1,81 +1,55 @@
-// The book of marks.
-ghost use Rattle.std.specs.Prelude.{◌≡◌, Err, ◌≢◌, ◌≤◌, ◌↔◌, true, [], None, Some, List, IfOk, IfErr, IsTrue, OnOk, OnErr, length};
+// The book of marks: its indexes, and what it tells.
+ghost use Rattle.std.specs.Prelude.{◌≡◌, ◌≢◌, ◌+◌, ◌≤◌, ◌↔◌, ◌++◌, true, [], List, None, IfErr, IfOk, IsOk, OnErr, OnOk, length, vec_capacity};
 ghost use Rattle.fan_bits.specs.declared.mark.Mark.{Mark};
-ghost use Rattle.fan_bits.specs.Marks.{IsChange, IsMarkList, changed, count_of, mark_of, next_on, retired};
+ghost use Rattle.fan_bits.specs.Marks.{IsChange, IsMarkList, changed, count_of, mark_of, next_on, on, retired};
 ghost use Rattle.fan_bits.specs.Places.{IsObject};
-ghost use Rattle.fan_marks.specs.Book.{IsRefused, makes_mark, refusal_of};
+ghost use Rattle.fan_bits.specs.Refusals.{makes_mark, refusal_of};
+ghost use Rattle.fan_marks.specs.Book.{IsRefused};
 
-use super::edits::make;
-use super::marks::Marks;
-use super::refusal::refusal;
-#[cfg(test)]
-use super::takes::takes;
-use fan_bits::{Change, Changed, Connectors, Mark, Order};
+use super::keys::{GroupKey, ObjectKey};
+use super::refused::MarkRefused;
+use super::selection::Selection;
+use fan_bits::{Change, Changed, Class, Connectors, Errno, Mark, Order};
 use fan_io::NoMemory;
-use std::alloc::{AllocError, AllocFailed, Global};
+use fan_map::Map;
+use fan_map::counts::number_at;
+use std::alloc::Global;
 use std::marker::Model;
+use std::ops::Bound;
 
-/// Why a change was refused. Nothing changed.
-#[derive(Clone, Copy, Debug, PartialEq, Eq)]
-pub enum MarkRefused {
-    /// Bits were to be taken from a mark that isn't there.
-    NoMark,
-    /// A new mark would be one too many for its group, which has as many as a group may have.
-    Limit { marks: u32 },
-    /// No memory was found.
-    NoMemory,
-}
-
-impl From<NoMemory> for MarkRefused {
-    ghost use Rattle.std.specs.Prelude.{◌≡◌};
-    ghost use Rattle.fan_marks.specs.declared.book.MarkRefused.TheVariants.{NoMemory};
-
-    ghost from_gives = { λ _ e. e ≡ NoMemory };
-
-    fn from(_: NoMemory) -> MarkRefused {
-        MarkRefused::NoMemory
-    }
-}
-
-impl From<AllocError> for MarkRefused {
-    ghost use Rattle.std.specs.Prelude.{◌≡◌};
-    ghost use Rattle.fan_marks.specs.declared.book.MarkRefused.TheVariants.{NoMemory};
-
-    ghost from_gives = { λ _ e. e ≡ NoMemory };
-
-    fn from(_: AllocError) -> MarkRefused {
-        MarkRefused::NoMemory
-    }
-}
-
-impl<T: Drop> From<AllocFailed<T>> for MarkRefused {
-    ghost use Rattle.std.specs.Prelude.{◌≡◌};
-    ghost use Rattle.fan_marks.specs.declared.book.MarkRefused.TheVariants.{NoMemory};
-
-    ghost from_gives = { λ _ e. e ≡ NoMemory };
-
-    fn from(_: AllocFailed<T>) -> MarkRefused {
-        MarkRefused::NoMemory
-    }
-}
+// How many marks a book holds at most, so that their number is a u32.
+pub(crate) const MAX_STORED: usize = 4_294_967_295;
 
 /// All marks of all groups.
+///
+/// Contracts see the list of marks, in the order of objects and on one object of groups, and how
+/// many new marks the book takes without memory.
 #[derive(Drop)]
 pub struct MarkBook {
-    marks: Marks,
+    // The marks, by object and order.
+    pub(crate) by_object: Map<ObjectKey, Mark>,
+    // The class of each mark, by its group and, in a group, by the kind of the object and object.
+    pub(crate) by_group: Map<GroupKey, Class>,
+    // How many marks each group has that has one.
+    pub(crate) counts: Map<u32, u32>,
 }
 
 impl Model for MarkBook {
-    ghost use Rattle.std.specs.Prelude.{◌≤◌, length};
-    ghost use Rattle.fan_bits.specs.Marks.{IsMarkList};
     ghost use Rattle.fan_marks.specs.Book.{BookState};
-    ghost use Rattle.fan_marks.specs.Made.{most_in_book};
 
     ghost Value = { BookState };
 
-    ghost view = { λ b. b.marks };
+    ghost use Rattle.std.specs.Prelude.{◌-◌, length, min};
+    ghost use Rattle.std.specs.Map.{values_of};
+    ghost use Rattle.fan_marks.specs.Stored.{IsStored, max_stored};
 
-    ghost invariant = { λ b. IsMarkList b.marks.marks × (length b.marks.marks ≤ most_in_book) };
+    ghost view = { λ b. record {
+      marks = values_of b.by_object.entries;
+      spare = min (min b.by_object.spare b.by_group.spare)
+          (min b.counts.spare (max_stored - length b.by_object.entries));
+    } };
+
+    ghost invariant = { λ b. IsStored b.by_object.entries b.by_group.entries b.counts.entries };
 }
 
 impl MarkBook {
@@ -84,47 +58,97 @@ impl MarkBook {
         ensures empty { IfOk result (λ book. book.marks ≡ []) }
     {
         Ok(MarkBook {
-            marks: Marks::new(alloc),
+            by_object: Map::new(alloc),
+            by_group: Map::new(alloc),
+            counts: Map::new(alloc),
         })
     }
 
-    /// The mark of a group on an object; None exactly where there is none.
+    /// The mark of a group on an object; None exactly when there is none.
     pub fn find(&self, group: u32, object: u32) -> Option<Mark>
         ensures found { result ≡ mark_of self.now.marks group object }
         ensures whole { IsMarkList self.now.marks }
     {
-        self.marks.find(group, object)
+        let first = self.first(Selection::OfGroup { group })?;
+        self.get(ObjectKey { object, ..first })
     }
 
     /// How many marks a group has.
     pub fn count(&self, group: u32) -> u32
-        ensures { result ≡ count_of self.now.marks group }
+        ensures count { result ≡ count_of self.now.marks group }
+        ensures whole { IsMarkList self.now.marks }
     {
-        self.marks.count(group) as u32
+        number_at(&self.counts, group)
+    }
+
+    /// Appends the marks on an object, in the order of their groups. Allocates only if `out` has no
+    /// room for them.
+    ///
+    /// # Errors
+    /// `NoMemory` if `out` couldn't grow; it has some of the marks then.
+    pub fn marks_on(&self, object: u32, out: &mut Vec<Mark>) -> Result<(), NoMemory>
+        ensures ok { OnOk result (out.new.items ≡ out.old.items ++ on object self.now.marks) }
+        ensures fits { length out.old.items + length (on object self.now.marks)
+            ≤ vec_capacity out.old → IsOk result }
+        ensures whole { IsMarkList self.now.marks }
+    {
+        let start = ObjectKey {
+            object,
+            order: Order::START,
+        };
+        for (key, mark) in self.by_object.iter_from(Bound::Included(&start)) {
+            if key.object != object {
+                break;
+            }
+            out.push(*mark)?;
+        }
+        Ok(())
     }
 
     /// Makes room for a new mark, so that the next change finds it whatever memory is left then.
-    /// It wants memory only where there is no room yet.
+    /// Allocates only if there is no room yet.
+    ///
+    /// # Errors
+    /// `NoMemory` if there was no room and none could be made.
     pub fn reserve(&mut self) -> Result<(), NoMemory>
         ensures room { OnOk result (1 ≤ self.new.spare) }
         ensures full { OnErr result (self.old.spare ≡ 0) }
         ensures same { self.new.marks ≡ self.old.marks }
     {
-        self.marks.reserve()
+        if self.by_object.len() >= MAX_STORED {
+            return Err(NoMemory);
+        }
+        self.by_object.reserve()?;
+        self.by_group.reserve()?;
+        self.counts.reserve()?;
+        Ok(())
     }
 
-    /// For tests: whether a change may be made: its numbers are in their ranges, it does what a Put
-    /// may do, and the class is the one of the group's marks.
-    #[cfg(test)]
-    pub(crate) fn takes(&self, change: &Change) -> bool
-        ensures { IsTrue result → IsChange self.now.marks change.now }
+    /// Why a change would be refused, if it would: `Enoent` if bits are to be taken from a mark
+    /// that isn't there, and else `Enospc` if a group that isn't `unlimited` has 8,192 marks and
+    /// would get a new one: fanotify_mark(2).
+    pub fn refusal(&self, change: &Change, unlimited: bool) -> Option<Errno>
+        requires { IsChange self.now.marks change.now }
+        ensures { result ≡ refusal_of self.now.marks change.now unlimited }
     {
-        takes(&self.marks, change)
+        let Change::Put {
+            group,
+            class,
+            words,
+            object,
+        } = *change
+        else {
+            return None;
+        };
+        self.slot(group, class, words, object, unlimited).err()
     }
 
-    /// Makes a change. `NoMark` comes exactly where bits are to be taken from a mark that isn't
-    /// there, and else `Limit` exactly where a group that isn't `unlimited` has 8,192 marks and would
-    /// get a new one. Memory is wanted only by a change that makes a new mark, where there is no room.
+    /// Makes a change. Allocates only for a new mark for which there is no room.
+    ///
+    /// # Errors
+    /// `NoMark` exactly if bits are to be taken from a mark that isn't there, and else `Limit`
+    /// exactly if a group that isn't `unlimited` has 8,192 marks and would get a new one;
+    /// `NoMemory` if there was no room for a new mark and none could be made.
     pub fn change(&mut self, change: &Change, unlimited: bool) -> Result<Changed, MarkRefused>
         requires { IsChange self.old.marks change.now }
         ensures ok { OnOk result (self.new.marks ≡ changed self.old.marks change.now) }
@@ -140,10 +164,25 @@ impl MarkBook {
         ensures err { OnErr result (self.new.marks ≡ self.old.marks) }
         ensures whole { IsMarkList self.new.marks }
     {
-        if let Some(why) = refusal(&self.marks, change, unlimited) {
-            return Err(why);
-        }
-        Ok(make(&mut self.marks, change)?)
+        let _ = &self.by_object; // What a book holds is a list of marks.
+        Ok(match *change {
+            Change::Put {
+                group,
+                class,
+                words,
+                object,
+            } => {
+                let slot = match self.slot(group, class, words, object, unlimited) {
+                    Ok(slot) => slot,
+                    Err(errno) => return Err(MarkRefused::of(errno)),
+                };
+                self.put(&slot)?
+            }
+            Change::Flush { group, kind } => self.drop_all(Selection::OfKind { group, kind }),
+            Change::Clear { object } => self.clear(object),
+            Change::DropGroup { group } => self.drop_all(Selection::OfGroup { group }),
+            Change::DropObject { object } => self.drop_all(Selection::OnObject { object }),
+        })
     }
 }
 
@@ -159,6 +198,6 @@ impl Connectors for MarkBook {
             → result ≡ next_on marks object after.0 }
         ensures same { self.new ≡ self.old }
     {
-        self.marks.next(object, after)
+        self.next_on(object, after)
     }
 }

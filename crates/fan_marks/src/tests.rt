@@ -1,10 +1,65 @@
 // Histories of books, with the lists that fanotify_mark(2) makes of them.
-use super::index::Index;
+ghost use Rattle.std.specs.Prelude.{◌≡◌, ◌≤◌, ◌<◌, ◌^◌, All, IsTrue};
+ghost use Rattle.fan_bits.specs.declared.change.Change.TheVariants.{Put};
+ghost use Rattle.fan_bits.specs.Marks.{IsChange};
+ghost use Rattle.fan_bits.specs.Places.{IsObject};
+
+use super::selection::Selection;
 use super::*;
-use fan_bits::{Change, Changed, Class, Connectors, Kind, Mark, MarkWords, Order, Verb};
+use fan_bits::{Change, Changed, Class, Connectors, Errno, Kind, Mark, MarkWords, Order, Verb};
 use fan_io::NoMemory;
 use std::alloc::Global;
 use std::test::Fail;
+
+// Whether a change may be made of a book: its numbers are in their ranges, it does what a Put may
+// do, and the class is the one of the group's marks.
+fn takes(book: &MarkBook, change: &Change) -> bool
+    ensures { IsTrue result → IsChange book.now.marks change.now }
+{
+    match *change {
+        Change::Put {
+            group,
+            class,
+            words,
+            object,
+        } => takes_put(book, group, class, words, object),
+        _ => true,
+    }
+}
+
+// Whether bits may be put on the mark of a group on an object, or taken from it.
+fn takes_put(book: &MarkBook, group: u32, class: Class, words: MarkWords, object: u32) -> bool
+    ensures { IsTrue result → IsChange book.now.marks (Put group class words object) }
+{
+    if words.verb == Verb::Flush {
+        return false;
+    }
+    if !is_in_range(group, object) {
+        return false;
+    }
+    has_class(book, group, class)
+}
+
+// Whether the numbers are those of a group and of an object.
+fn is_in_range(group: u32, object: u32) -> bool
+    ensures { IsTrue result → ((1 ≤ group) × (group < 2 ^ 32)) × IsObject object }
+{
+    group >= 1 && object >= 1 && object <= 65_535
+}
+
+// Whether all marks of a group have a class: one of them tells.
+fn has_class(book: &MarkBook, group: u32, class: Class) -> bool
+    ensures { IsTrue result
+        → All (λ mark. mark.group ≡ group → mark.class ≡ class) book.now.marks }
+{
+    let Some(key) = book.first(Selection::OfGroup { group }) else {
+        return true;
+    };
+    match book.get(key) {
+        Some(mark) => mark.class == class,
+        None => false,
+    }
+}
 
 // A line is a history, ' = ', its answers, ' | ' and the list at its end. A word a, r, i, s or j
 // with GROUP.RANK.OBJECT.BITS adds to a mask, removes from one, adds to an ignored set, adds to one
@@ -22,10 +77,10 @@ a.1.2.5.33 r.1.2.5.32 = 1.0 1.1 | 5:1.1.0
 a.1.2.5.32 r.1.2.5.32 = 1.0 1.1 |
 a.1.2.5.1073741856 r.1.2.5.32 = 1.0 1.1 |
 a.1.2.5.32 r.1.2.5.1 = 1.0 0.0 | 5:1.32.0
-r.1.2.5.32 = none |
-a.1.2.5.32 r.1.2.6.32 = 1.0 none | 5:1.32.0
-a.1.2.5.32 r.2.2.5.32 = 1.0 none | 5:1.32.0
-a.1.2.5.32 r.1.2.5.32 r.1.2.5.32 = 1.0 1.1 none |
+r.1.2.5.32 = no mark |
+a.1.2.5.32 r.1.2.6.32 = 1.0 no mark | 5:1.32.0
+a.1.2.5.32 r.2.2.5.32 = 1.0 no mark | 5:1.32.0
+a.1.2.5.32 r.1.2.5.32 r.1.2.5.32 = 1.0 1.1 no mark |
 i.1.2.5.2 = 1.0 | 5:1.0.2
 i.1.2.5.1073741826 = 1.0 | 5:1.0.2
 i.1.2.5.1073741824 = 0.0 |
@@ -72,18 +127,21 @@ fn play(alloc: Global, history: &str) -> Result<String, NoMemory> {
         play_word(&mut book, change_of(word), &mut out)?;
     }
     out.push('|')?;
-    show_list(&mut book, &mut out)?;
+    show_list(&mut book, &mut out, alloc)?;
     Ok(out)
 }
 
 // Makes one change and shows its answer.
 fn play_word(book: &mut MarkBook, change: Change, out: &mut String) -> Result<(), NoMemory> {
-    if !book.takes(&change) {
+    if !takes(book, &change) {
         return Ok(());
+    }
+    if book.refusal(&change, false) == Some(Errno::Enoent) {
+        out.push_str("no ")?;
     }
     match book.change(&change, false) {
         Ok(done) => show_done(done, out),
-        Err(MarkRefused::NoMark) => Ok(out.push_str("none ")?),
+        Err(MarkRefused::NoMark) => Ok(out.push_str("mark ")?),
         Err(MarkRefused::Limit { .. }) => Ok(out.push_str("limit ")?),
         Err(MarkRefused::NoMemory) => Err(NoMemory),
     }
@@ -95,20 +153,28 @@ fn show_done(done: Changed, out: &mut String) -> Result<(), NoMemory> {
     Ok(out.push(' ')?)
 }
 
-// Shows the marks on the first nine objects, as `next` gives them.
-fn show_list(book: &mut MarkBook, out: &mut String) -> Result<(), NoMemory> {
+// Shows the marks on the first nine objects, as one walk and as `next` give them.
+fn show_list(book: &mut MarkBook, out: &mut String, alloc: Global) -> Result<(), NoMemory> {
     for object in 1..10 {
+        let mut marks = Vec::new(alloc);
+        book.marks_on(object, &mut marks)?;
         let mut after = Order::START;
-        for _ in 0..9 {
-            let _ = book.find(1, object);
-            let Some(mark) = book.next(object, after) else {
-                break;
-            };
-            show_mark(mark, out)?;
+        for mark in &marks {
+            if next_mark(book, object, after) == Some(*mark) {
+                show_mark(*mark, out)?;
+            }
             after = mark.order();
         }
     }
     Ok(())
+}
+
+// The next mark on an object. That a book holds a list of marks is said by `find`.
+fn next_mark(book: &mut MarkBook, object: u32, after: Order) -> Option<Mark>
+    requires { IsObject object }
+{
+    let _ = book.find(1, object);
+    book.next(object, after)
 }
 
 fn show_mark(mark: Mark, out: &mut String) -> Result<(), NoMemory> {
@@ -232,7 +298,7 @@ fn put(
         words: words_of("a", 0x20),
         object,
     };
-    if !book.takes(&change) {
+    if !takes(book, &change) {
         return Err(MarkRefused::NoMark);
     }
     book.change(&change, unlimited)
@@ -244,49 +310,4 @@ fn room_is_made_ahead(rt: HostRuntime) -> Result<(), Fail> {
     book.reserve()?;
     assert!(rt; put(&mut book, 1, 5, false).is_ok());
     Ok(())
-}
-
-// Neither side of a mark has more than three quarters of what is below it, counting one for an empty
-// end: so of 4,096 marks 27 stand one below another at most, and of 2,048 marks 25.
-#[test]
-fn a_tree_stays_shallow(rt: HostRuntime) -> Result<(), Fail> {
-    let mut index = Index::new(rt.alloc());
-    for object in 1..4097 {
-        add_last(&mut index, object)?;
-    }
-    assert_eq!(rt; index.len(), 4096);
-    assert!(rt; index.depth() <= 27);
-    for _ in 0..2048 {
-        drop_first(&mut index);
-    }
-    assert_eq!(rt; index.len(), 2048);
-    assert!(rt; index.depth() <= 25);
-    Ok(())
-}
-
-// Puts a mark behind all others.
-fn add_last(index: &mut Index, object: u32) -> Result<(), NoMemory> {
-    let at = index.len();
-    index.reserve()?;
-    index.insert(at, mark_on(object));
-    Ok(())
-}
-
-// Takes the first mark out, if there is one.
-fn drop_first(index: &mut Index) {
-    if index.len() > 0 {
-        index.remove(0);
-    }
-}
-
-fn mark_on(object: u32) -> Mark {
-    Mark {
-        group: 1,
-        class: Class::Notif,
-        object,
-        kind: Kind::Inode,
-        mask: 0x20,
-        ignored: 0,
-        survives: false,
-    }
 }
