@@ -5,7 +5,7 @@ use Rattle.fan_listener.specs.declared.queue.Put.TheVariants as puts
 use Rattle.fan_listener.specs.declared.answers.Answer.TheVariants as answers
 use Rattle.fan_listener.specs.ListenerState.{ListenerState}
 use Rattle.fan_listener.specs.Queue.{put}
-use Rattle.fan_listener.specs.Responses.{answer_of, answer_in, answer_or_closed, is_to, closed_of}
+use Rattle.fan_listener.specs.Responses.{answer_of, verdict_in, answer_or_closed, is_to, closed_of}
 
 -- a closed listener takes no event and stays
 pub put-closed : (state : ListenerState) (event : Event) → state.closed ≡ true
@@ -18,7 +18,7 @@ pub answer_of-closed_of : (state : ListenerState) (entry : ℕ)
     → find (is_to entry) state.answers ≡ None
     → (answer_of (closed_of state) entry).0 ≡ answers.Closed
 unfolding answer_of closed_of
-answer_of-closed_of state entry none = ap (λ found. answer_or_closed true (option_map answer_in found)) none
+answer_of-closed_of state entry none = ap (λ found. answer_or_closed true (option_map verdict_in found)) none
 
 -- an answer that was given stays over the close
 pub answers-closed_of : (state : ListenerState) → (closed_of state).answers ≡ state.answers

@@ -1,4 +1,3 @@
-pub mod FirstLemmas
 pub mod ResponseLemmas
 pub mod QueueLemmas
 pub mod RecordLemmas

@@ -4,7 +4,7 @@ use native.Mathlib.Numerals.{unary_clauses}
 use Rattle.std.proofs.lemmas.Bool.Decides.{nat_tests}
 use Rattle.fan_listener.specs.declared.queue.Entry.{Entry}
 use Rattle.fan_listener.specs.declared.queue.Body.{Body}
-use Rattle.fan_listener.specs.declared.queue.Body.TheVariants.{Told, Lost}
+use Rattle.fan_listener.specs.declared.queue.Body.TheVariants.{Told, Overflow}
 use Rattle.fan_listener.specs.declared.answers.Pending.{Pending}
 use Rattle.std.proofs.lemmas.List.Sums.{sum_by-cons, sum_by-take-drop}
 use Rattle.fan_listener.specs.Queue.{asks, body_asks}
@@ -40,7 +40,7 @@ one_or_none false x = refl
 length-pending_of : (fd number : ℕ) (body : Body)
     → length (pending_of fd number body) ≡ cond (body_asks body) 1 0
 length-pending_of fd number (Told event) = one_or_none event.perm (record { fd = fd; entry = number })
-length-pending_of fd number Lost = refl
+length-pending_of fd number Overflow = refl
 
 -- so many events wait after a read as permission events were read
 length-pendings : (fd : ℕ) (entries : List Entry) → length (pendings fd entries) ≡ count_by asks entries

@@ -5,7 +5,7 @@ use Rattle.fan_listener.specs.declared.answers.Pending.{Pending}
 use Rattle.fan_listener.specs.declared.answers.Kept.{Kept}
 
 -- the flags and the limit with which it was made; the queued entries; the permission events that
--- were read; the answers that weren't taken yet; the next numbers of an entry and of a descriptor
+-- were read; the verdicts that weren't taken yet; the next numbers of an entry and of a descriptor
 pub record ListenerState : Type 0 where
   pub flags : ℕ
   pub limit : ℕ

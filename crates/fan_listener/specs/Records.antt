@@ -1,12 +1,13 @@
 -- What a read gives, and what it leaves: fanotify(7).
-use Rattle.std.specs.Prelude.{ℕ, ℤ, pos, negsuc, ◌+◌, ◌-◌, nat_lt, nat_le, if◌then◌else◌, List, [], ◌∷◌, ◌++◌, length, drop, Result, Ok, Err}
+use Rattle.std.specs.Prelude.{ℕ, ℤ, pos, negsuc, ◌+◌, ◌-◌, ◌==◌, nat_lt, nat_le, if◌then◌else◌, List, [], ◌∷◌, ◌++◌, length, drop, Result, Ok, Err}
 use Rattle.std.specs.Int.{to_le_bytes, cast_unsigned, w16, w32, w64}
+use Rattle.fan_bits.specs.declared.errno.Errno.{Errno}
+use Rattle.fan_bits.specs.declared.errno.Errno.TheVariants as errno
+use Rattle.fan_bits.specs.MarkWords.{overflow_bit}
 use Rattle.fan_listener.specs.declared.queue.Body.{Body}
-use Rattle.fan_listener.specs.declared.queue.Body.TheVariants.{Told, Lost}
+use Rattle.fan_listener.specs.declared.queue.Body.TheVariants.{Told, Overflow}
 use Rattle.fan_listener.specs.declared.queue.Entry.{Entry}
 use Rattle.fan_listener.specs.declared.answers.Pending.{Pending}
-use Rattle.fan_listener.specs.declared.answers.ReadRefused.{ReadRefused}
-use Rattle.fan_listener.specs.declared.answers.ReadRefused.TheVariants as refusals
 use Rattle.fan_listener.specs.ListenerState.{ListenerState}
 
 -- the bytes of a record: its length, version 3, a zero, the length of this part, the mask, the
@@ -23,18 +24,18 @@ record_len = 24
 -- an event's record has the descriptor; the overflow record FAN_Q_OVERFLOW, FAN_NOFD and no process
 abbrev pub record_of : ℕ → Body → List ℕ
 record_of fd (Told event) = record_bytes event.bits (pos fd) event.who
-record_of fd Lost = record_bytes 0x4000 (negsuc 0) 0
+record_of fd Overflow = record_bytes overflow_bit (negsuc 0) 0
 
 -- each record but the overflow record takes the next descriptor
 abbrev pub fd_after : ℕ → Body → ℕ
 fd_after fd (Told _) = fd + 1
-fd_after fd Lost = fd
+fd_after fd Overflow = fd
 
 -- a permission event waits for its answer under its descriptor
 abbrev pub pending_of : ℕ → ℕ → Body → List Pending
 pending_of fd number (Told event) =
     if event.perm then (record { fd = fd; entry = number }) ∷ [] else []
-pending_of fd number Lost = []
+pending_of fd number Overflow = []
 
 -- the records of entries, the first of which has this descriptor
 abbrev pub records : ℕ → List Entry → List ℕ
@@ -70,14 +71,11 @@ read_front state front = record state {
 abbrev pub front_read : ListenerState → List Entry → List ℕ × ListenerState
 front_read state front = (records state.next_fd front, read_front state front)
 
--- a read with these queued entries
-abbrev pub read_queue : ListenerState → ℕ → List Entry → Result (List ℕ × ListenerState) ReadRefused
-read_queue state size [] = Err refusals.Again
-read_queue state size (first ∷ rest) =
-    if nat_lt size record_len then Err refusals.Small
-    else Ok (front_read state (front_within size (first ∷ rest)))
-
--- a read of at most this many bytes: the bytes and the listener after it, or why there is none
-unfoldable pub read_of : ListenerState → ℕ → Result (List ℕ × ListenerState) ReadRefused
+-- a read of at most this many bytes: EBADF, EAGAIN, EINVAL in this order, else the bytes and the
+-- listener after it
+unfoldable pub read_of : ListenerState → ℕ → Result (List ℕ × ListenerState) Errno
 read_of state size =
-    if state.closed then Err refusals.Closed else read_queue state size state.queue
+    if state.closed then Err errno.Ebadf
+    else if length state.queue == 0 then Err errno.Eagain
+    else if nat_lt size record_len then Err errno.Einval
+    else Ok (front_read state (front_within size state.queue))

@@ -1,4 +1,20 @@
 //! The listener of one group: its queue, its reads, and the answers to its permission events.
+//!
+//! An event is put on the queue, read as a record with a descriptor, and answered under this
+//! descriptor:
+//!
+//! ```
+//! let content = init_words(0x4)?; // FAN_CLASS_CONTENT
+//! let mut listener = Listener::new(alloc, content, 16_384)?;
+//! let event = event_for(content, &happening, FAN_OPEN_PERM, 41, 41, true);
+//! let put = listener.ask(event)?;
+//! let record = listener.read(4096)?;
+//! let answered = listener.write(&[0, 0, 0, 0, 1, 0, 0, 0])?; // descriptor 0, FAN_ALLOW
+//! let entry = answered.entry;
+//! assert_eq!(record.len(), 24);
+//! assert_eq!(put, Put::Queued { entry });
+//! assert_eq!(listener.answer_of(entry), Answer::Allowed);
+//! ```
 #![tactic(auto)]
 
 mod answers;
@@ -10,7 +26,7 @@ mod responses;
 #[cfg(test)]
 mod tests;
 
-pub use answers::{Answer, Answered, ReadRefused, WriteRefused};
-pub use event::{Event, Target};
+pub use answers::{Answer, Answered, ReadRefused, Verdict, WriteRefused};
+pub use event::{Event, Target, event_for};
 pub use listener::Listener;
 pub use queue::{Body, Entry, Put};

@@ -4,25 +4,30 @@ ghost use Rattle.fan_listener.specs.Records.{record_bytes, records, pendings, ne
 
 use super::answers::Pending;
 use super::queue::{Body, Entry};
+use fan_bits::FAN_Q_OVERFLOW;
 use fan_io::NoMemory;
 use std::alloc::Global;
 
-// The bytes of a record.
+// The length of a record: `struct fanotify_event_metadata`.
 pub(crate) const RECORD_LEN: u32 = 24;
 
+// The length of the part before the information records, which is all of it.
 const METADATA_LEN: u16 = 24;
 
+// FANOTIFY_METADATA_VERSION.
 const VERSION: u8 = 3;
 
-const Q_OVERFLOW: u64 = 0x4000;
-
+// FAN_NOFD: the overflow record has no descriptor.
 const NOFD: i32 = -1;
 
-// What a read of some entries gives.
+// What a read of some entries gives, and what waits afterwards.
 #[derive(Drop)]
 pub(crate) struct Taken {
+    // The records.
     pub(crate) bytes: Vec<u8>,
+    // The permission events among the entries.
     pub(crate) pending: Vec<Pending>,
+    // The next descriptor.
     pub(crate) next_fd: u32,
 }
 
@@ -32,8 +37,8 @@ pub(crate) fn front_len(entries: &[Entry], size: u32) -> usize
     ensures small { 24 * result ≤ size }
     ensures front { take result entries.now ≡ front_within size entries.now }
 {
-    let most = (size / RECORD_LEN) as usize;
-    most.min(entries.len())
+    let fitting = (size / RECORD_LEN) as usize;
+    fitting.min(entries.len())
 }
 
 // The records of entries, the first of which gets this descriptor, and what waits afterwards.
@@ -62,7 +67,7 @@ pub(crate) fn take_entries(
                 }
                 fd += 1;
             }
-            Body::Lost => push_record(&mut bytes, Q_OVERFLOW, NOFD, 0)?,
+            Body::Overflow => push_record(&mut bytes, u64::from(FAN_Q_OVERFLOW), NOFD, 0)?,
         }
     }
     Ok(Taken {

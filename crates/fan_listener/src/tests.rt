@@ -1,8 +1,8 @@
 // Short histories of listeners, with outcomes worked out from fanotify(7).
-ghost use Rattle.std.specs.Prelude.{◌≡◌, true, false};
+ghost use Rattle.std.specs.Prelude.{◌≡◌};
 
 use super::*;
-use fan_bits::init_words;
+use fan_bits::{FAN_OPEN_PERM, Happening, InitWords, Place, init_words};
 use fan_io::NoMemory;
 use std::alloc::Global;
 use std::test::Fail;
@@ -10,21 +10,22 @@ use std::test::Fail;
 // A line is a history, ' = ' and its outcomes. The words of a history are n.FLAGS.LIMIT for the listener,
 // then t, d, m and p.BITS.WHO.INODE for a told event, one on a directory, one on another mount and a
 // permission event, r.SIZE for a read, w.FD.VALUE for a response and s.FD.VALUE.LENGTH for one of another
-// length, q.ENTRY for an answer, and c for the close. A record is shown as [MASK FD PID].
+// length, q.ENTRY for an answer, and c for the close. The thread is WHO + 100. A record is shown as
+// [MASK FD PID], and a refusal as its variant and its error.
 const HISTORIES: &str = "\
-n.0.2 t.32.41.4 t.32.41.5 t.32.41.4 t.32.41.5 r.72 r.24 = Q1 Q2 O3 O3 [32 0 41][32 1 41][16384 -1 0] again
+n.0.2 t.32.41.4 t.32.41.5 t.32.41.4 t.32.41.5 r.72 r.24 = Q1 Q2 O3 O3 [32 0 41][32 1 41][16384 -1 0] Again:Eagain
 n.4.1 p.65536.50.4 p.65536.51.5 r.48 w.0.1 q.1 = Q1 O2 [65536 0 50][16384 -1 0] A1 allow
 n.4.9 t.32.41.4 t.32.41.4 t.1.41.4 t.32.42.4 r.4096 p.65536.41.4 p.65536.41.4 r.4096 = Q1 M1 M1 Q2 [33 0 41][32 1 42] Q3 Q4 [65536 2 41][65536 3 41]
-n.4.9 p.65536.50.4 q.1 w.0.1 r.24 w.0.1 w.0.1 q.1 q.1 = Q1 wait none [65536 0 50] A1 none allow wait
-n.4.9 p.65536.50.4 w.0.1 r.24 s.0.1.7 w.0.3 w.99.3 w.99.1 w.0.1 = Q1 none [65536 0 50] length value value none A1
-n.4.9 p.65536.50.4 q.1 p.65536.51.5 q.2 r.24 c q.1 q.2 r.24 w.0.1 p.65536.52.4 = Q1 wait Q2 wait [65536 0 50] ok shut shut closed closed C
+n.4.9 p.65536.50.4 q.1 w.0.1 r.24 w.0.1 w.0.1 q.1 q.1 = Q1 wait NotPending:Enoent [65536 0 50] A1 NotPending:Enoent allow wait
+n.4.9 p.65536.50.4 w.0.1 r.24 s.0.1.7 w.0.3 w.99.3 w.99.1 w.0.1 = Q1 NotPending:Enoent [65536 0 50] Length:Einval Value:Einval Value:Einval NotPending:Enoent A1
+n.4.9 p.65536.50.4 q.1 p.65536.51.5 q.2 r.24 c q.1 q.2 r.24 w.0.1 p.65536.52.4 = Q1 wait Q2 wait [65536 0 50] ok shut shut Closed:Ebadf Closed:Ebadf C
 n.8.9 p.65536.50.4 q.1 r.24 w.0.1 q.1 p.65536.50.4 r.24 w.1.2 q.2 = Q1 wait [65536 0 50] A1 allow Q2 [65536 1 50] A2 deny
 n.4.9 p.65536.50.4 r.24 w.0.2 q.1 = Q1 [65536 0 50] A1 deny
-n.0.9 r.24 = again
-n.0.9 r.0 = again
-n.0.9 t.32.41.4 r.0 = Q1 small
-n.0.9 t.32.41.4 r.23 r.24 = Q1 small [32 0 41]
-n.0.9 t.32.41.4 t.32.41.5 r.47 r.24 r.24 = Q1 Q2 [32 0 41] [32 1 41] again
+n.0.9 r.24 = Again:Eagain
+n.0.9 r.0 = Again:Eagain
+n.0.9 t.32.41.4 r.0 = Q1 Small:Einval
+n.0.9 t.32.41.4 r.23 r.24 = Q1 Small:Einval [32 0 41]
+n.0.9 t.32.41.4 t.32.41.5 r.47 r.24 r.24 = Q1 Q2 [32 0 41] [32 1 41] Again:Eagain
 n.0.9 t.32.41.4 t.32.41.5 t.32.41.6 r.71 r.71 = Q1 Q2 Q3 [32 0 41][32 1 41] [32 2 41]
 n.0.9 t.32.41.4 t.32.42.4 = Q1 Q2
 n.0.9 t.32.41.4 d.32.41.4 d.1.41.4 r.48 = Q1 Q2 M2 [32 0 41][33 1 41]
@@ -38,21 +39,22 @@ n.0.1 t.32.41.4 t.1.41.4 r.48 t.1.41.4 r.24 = Q1 O2 [32 0 41][16384 -1 0] Q3 [1 
 n.16.1 t.32.41.4 t.32.41.5 t.1.41.4 r.48 = Q1 Q2 M1 [33 0 41][32 1 41]
 n.0.2 t.32.41.4 t.1.41.4 r.24 = Q1 M1 [33 0 41]
 n.4.1 p.65536.50.4 p.65536.51.4 t.32.50.4 q.2 r.24 = Q1 O2 O2 wait [65536 0 50]
-n.4.9 c c t.32.41.4 p.65536.41.4 r.24 w.0.1 q.1 = ok ok C C closed closed shut
+n.4.9 c c t.32.41.4 p.65536.41.4 r.24 w.0.1 q.1 = ok ok C C Closed:Ebadf Closed:Ebadf shut
 n.4.9 p.65536.50.4 r.24 w.0.1 c q.1 q.1 = Q1 [65536 0 50] A1 ok allow shut
 n.4.9 p.65536.50.4 p.65536.51.5 r.48 w.1.2 w.0.1 q.1 q.2 = Q1 Q2 [65536 0 50][65536 1 51] A2 A1 allow deny
 n.4.9 q.7 = wait
-n.4.9 p.65536.50.4 r.24 w.4294967295.1 w.2147483648.1 w.0.1 = Q1 [65536 0 50] none none A1
-n.4.9 t.32.50.4 r.24 w.0.1 = Q1 [32 0 50] none
-n.4.9 t.32.50.4 p.65536.50.4 r.48 w.0.1 w.1.1 q.2 = Q1 Q2 [32 0 50][65536 1 50] none A2 allow
+n.4.9 p.65536.50.4 r.24 w.4294967295.1 w.2147483648.1 w.0.1 = Q1 [65536 0 50] NotPending:Enoent NotPending:Enoent A1
+n.4.9 t.32.50.4 r.24 w.0.1 = Q1 [32 0 50] NotPending:Enoent
+n.4.9 t.32.50.4 p.65536.50.4 r.48 w.0.1 w.1.1 q.2 = Q1 Q2 [32 0 50][65536 1 50] NotPending:Enoent A2 allow
 n.4.1 p.65536.50.4 p.65536.51.4 r.48 p.65536.52.4 r.24 w.1.2 q.3 = Q1 O2 [65536 0 50][16384 -1 0] Q3 [65536 1 52] A3 deny
-n.4.9 p.65536.50.4 r.24 s.0.1.0 s.0.1.9 s.0.1.8 q.1 = Q1 [65536 0 50] length length A1 allow
-n.4.9 p.65536.50.4 r.24 w.0.0 w.0.4294967295 w.0.2 = Q1 [65536 0 50] value value A1
-n.4.9 c s.0.1.7 w.0.3 r.0 = ok closed closed closed
-n.4.9 p.65536.50.4 r.24 w.0.1 w.0.2 q.1 = Q1 [65536 0 50] A1 none allow
+n.4.9 p.65536.50.4 r.24 s.0.1.0 s.0.1.9 s.0.1.8 q.1 = Q1 [65536 0 50] Length:Einval Length:Einval A1 allow
+n.4.9 p.65536.50.4 r.24 w.0.0 w.0.4294967295 w.0.2 = Q1 [65536 0 50] Value:Einval Value:Einval A1
+n.4.9 c s.0.1.7 w.0.3 r.0 = ok Closed:Ebadf Closed:Ebadf Closed:Ebadf
+n.4.9 p.65536.50.4 r.24 w.0.1 w.0.2 q.1 = Q1 [65536 0 50] A1 NotPending:Enoent allow
 n.4.9 p.65536.50.4 r.24 w.0.2 q.1 q.1 c q.1 = Q1 [65536 0 50] A1 deny wait ok shut
-n.0.9 t.32.41.4 r.4294967295 r.4294967295 = Q1 [32 0 41] again
-n.256.9 t.32.77.4 r.24 = Q1 [32 0 77]
+n.0.9 t.32.41.4 r.4294967295 r.4294967295 = Q1 [32 0 41] Again:Eagain
+n.256.9 t.32.77.4 r.24 = Q1 [32 0 177]
+n.260.9 p.65536.50.4 r.24 w.0.1 q.1 = Q1 [65536 0 150] A1 allow
 n.8.9 p.65536.41.4 p.65536.41.4 p.131072.41.4 r.48 w.1.1 q.1 q.2 q.3 = Q1 Q2 Q3 [65536 0 41][65536 1 41] A2 wait allow wait
 n.0.3 t.32.41.4 t.32.41.5 t.32.41.6 t.1.41.5 r.96 = Q1 Q2 Q3 O4 [32 0 41][32 1 41][32 2 41][16384 -1 0]
 n.0.2 t.32.41.4 t.32.41.5 t.32.41.6 r.48 t.32.41.7 t.32.41.8 r.72 = Q1 Q2 O3 [32 0 41][32 1 41] Q4 O3 [16384 -1 0][32 2 41]
@@ -67,6 +69,25 @@ fn histories_come_out_as_worked_out(rt: HostRuntime) -> Result<(), Fail> {
         let outcomes = play(rt.alloc(), history)?;
         assert_eq!(rt; outcomes.as_str(), wanted, "at {history}");
     }
+    Ok(())
+}
+
+// The example of the crate's documentation.
+#[test]
+#[tactic(auto, unfolding(crate::specs::ListenerState::new_listener))]
+fn a_permission_event_is_read_and_allowed(rt: HostRuntime) -> Result<(), Fail> {
+    let alloc = rt.alloc();
+    let happening = at_file(FAN_OPEN_PERM, 4);
+    let content = init_words(0x4)?; // FAN_CLASS_CONTENT
+    let mut listener = Listener::new(alloc, content, 16_384)?;
+    let event = event_for(content, &happening, FAN_OPEN_PERM, 41, 41, true);
+    let put = listener.ask(event)?;
+    let record = listener.read(4096)?;
+    let answered = listener.write(&[0, 0, 0, 0, 1, 0, 0, 0])?;
+    let entry = answered.entry;
+    assert_eq!(rt; record.len(), 24);
+    assert_eq!(rt; put, Put::Queued { entry });
+    assert_eq!(rt; listener.answer_of(entry), Answer::Allowed);
     Ok(())
 }
 
@@ -110,11 +131,19 @@ fn play_word(listener: &mut Listener, word: &str, out: &mut String) -> Result<()
     if listener.entries_made() > 1000 || listener.fds_given() > 1000 {
         return Ok(());
     }
+    let init = listener.init();
+    let told = at_file(a, c);
     match name {
-        "t" => show_put(listener.tell(event(a, b, c))?, out),
-        "d" => show_put(listener.tell(on_directory(event(a, b, c)))?, out),
-        "m" => show_put(listener.tell(on_other_mount(event(a, b, c)))?, out),
-        "p" => show_put(listener.ask(permission(event(a, b, c)))?, out),
+        "t" => show_put(listener.tell(event(init, told, b, false))?, out),
+        "d" => show_put(
+            listener.tell(event(init, on_directory(told), b, false))?,
+            out,
+        ),
+        "m" => show_put(
+            listener.tell(event(init, on_other_mount(told), b, false))?,
+            out,
+        ),
+        "p" => show_put(listener.ask(event(init, told, b, true))?, out),
         "r" => show_read(listener.read(a), out),
         "w" => show_written(listener.write(&response(a, b)[..8]), out),
         "s" => show_written(listener.write(&response(a, b)[..(c as usize).min(9)]), out),
@@ -127,43 +156,44 @@ fn play_word(listener: &mut Listener, word: &str, out: &mut String) -> Result<()
     }
 }
 
-fn event(bits: u32, who: u32, inode: u32) -> Event
-    ensures { result.perm ≡ false }
+// What the group is told of a happening, done by a process in its thread with a number 100 greater.
+fn event(init: InitWords, happening: Happening, pid: u32, perm: bool) -> Event
+    ensures { result.perm ≡ perm }
 {
-    Event {
+    let tid = pid.saturating_add(100);
+    event_for(init, &happening, happening.bits, pid, tid, perm)
+}
+
+// What happens to a file.
+fn at_file(bits: u32, inode: u32) -> Happening {
+    let place = Place {
+        mount: 3,
+        fs: 1,
+        inode,
+        parent: Some(2),
+        dir: false,
+    };
+    Happening {
+        place,
         bits,
         ondir: false,
-        who,
-        perm: false,
-        target: Target::Fd { mount: 3, inode },
+        entry: false,
     }
 }
 
-fn on_directory(event: Event) -> Event
-    ensures { result.perm ≡ event.perm }
-{
-    Event {
+fn on_directory(happening: Happening) -> Happening {
+    Happening {
         ondir: true,
-        ..event
+        ..happening
     }
 }
 
-fn on_other_mount(event: Event) -> Event
-    ensures { result.perm ≡ event.perm }
-{
-    Event {
-        target: Target::Fd { mount: 4, inode: 4 },
-        ..event
-    }
-}
-
-fn permission(event: Event) -> Event
-    ensures { result.perm ≡ true }
-{
-    Event {
-        perm: true,
-        ..event
-    }
+fn on_other_mount(happening: Happening) -> Happening {
+    let place = Place {
+        mount: 4,
+        ..happening.place
+    };
+    Happening { place, ..happening }
 }
 
 // A response with one byte more than it should have.
@@ -190,10 +220,10 @@ fn show_read(read: Result<Vec<u8>, ReadRefused>, out: &mut String) -> Result<(),
                 show_record(record, out)?;
             }
         }
-        Err(ReadRefused::Closed) => out.push_str("closed")?,
-        Err(ReadRefused::Again) => out.push_str("again")?,
-        Err(ReadRefused::Small) => out.push_str("small")?,
-        Err(ReadRefused::NoMemory) => return Err(NoMemory),
+        Err(why) => match why.errno() {
+            Some(errno) => write!(out, "{why:?}:{errno:?}")?,
+            None => return Err(NoMemory),
+        },
     }
     Ok(())
 }
@@ -217,10 +247,10 @@ fn show_written(written: Result<Answered, WriteRefused>, out: &mut String) -> Re
             let entry = answered.entry;
             write!(out, "A{entry}")?;
         }
-        Err(WriteRefused::Closed) => out.push_str("closed")?,
-        Err(WriteRefused::Length) => out.push_str("length")?,
-        Err(WriteRefused::Value) => out.push_str("value")?,
-        Err(WriteRefused::NotPending) => out.push_str("none")?,
+        Err(why) => {
+            let errno = why.errno();
+            write!(out, "{why:?}:{errno:?}")?;
+        }
     }
     Ok(())
 }
