@@ -1,0 +1,8 @@
+use Rattle.fan_groups.proofs.Open.{at_index, open_answered}
+use Rattle.fan_groups.proofs.listeners.answer_at.Goals as goal
+
+pub returns-clause-count : goal.returns-clause-count
+returns-clause-count c =
+    let here = at_index c.args.listeners.now.items c.args.index _ _ c.requires c.index_mut-listener.ensures.value in
+    open_answered c.args.listeners.now.items c.args.index _ _ here
+    c.args.entry _ c.answer_of.ensures.answer
