@@ -1,0 +1,169 @@
+// The marks near the place of an access, as they stood at its begin.
+ghost use Rattle.std.specs.Prelude.{◌≡◌, ◌≤◌, ◌^◌, ◌==◌, ◌||◌, ℕ, Bool, [], All, IfOk, OnErr, filter, find, map};
+ghost use Rattle.fan_access.specs.Access.{AccessState, access_step};
+ghost use Rattle.fan_access.specs.Kept.{IsAccess, IsStepped};
+ghost use Rattle.fan_bits.specs.declared.change.Change.TheVariants.{Clear};
+ghost use Rattle.fan_bits.specs.Interest.{near};
+ghost use Rattle.fan_bits.specs.Marks.{IsMarkList, Rises, changed, cleared, is_behind, next_on, stands};
+ghost use Rattle.fan_bits.specs.Places.{IsPlace};
+ghost use Rattle.fan_listener.specs.Groups.{IsCalledOnce};
+ghost use Rattle.fan_near.specs.Near.{IsLeast, if_on, is_near};
+
+use fan_access::{Access, StepOutcome};
+use fan_bits::{Connectors, Mark, Order, Place};
+use fan_groups::Groups;
+use fan_io::NoMemory;
+use fan_marks::MarkBook;
+use std::alloc::Global;
+use std::marker::Model;
+
+/// Marks in their order, by which an access goes from its begin to its end.
+#[derive(Drop)]
+pub struct NearMarks {
+    marks: Vec<Mark>,
+}
+
+impl Model for NearMarks {
+    ghost use Rattle.std.specs.Prelude.{List};
+    ghost use Rattle.fan_bits.specs.declared.mark.Mark.{Mark};
+    ghost use Rattle.fan_bits.specs.Marks.{IsMarkList};
+
+    ghost Value = { List Mark };
+
+    ghost view = { λ n. n.marks.items };
+
+    ghost invariant = { λ n. IsMarkList n.marks.items };
+}
+
+impl NearMarks {
+    /// No marks. Allocates nothing.
+    pub fn new(alloc: Global) -> NearMarks
+        ensures { result ≡ [] }
+    {
+        NearMarks {
+            marks: Vec::new(alloc),
+        }
+    }
+
+    /// The marks near a place, as the book has them now.
+    pub fn of(alloc: Global, book: &MarkBook, place: &Place) -> Result<NearMarks, NoMemory>
+        requires { IsPlace place.now }
+        ensures near { IfOk result (λ marks. marks ≡ filter (near place.now) book.now.marks) }
+        ensures whole { IfOk result (λ _. IsMarkList book.now.marks) }
+    {
+        let mut marks = Vec::new(alloc);
+        let mut last = 0;
+        while let Some(object) = next_object(place, last) {
+            book.marks_on(object, &mut marks)?;
+            last = object;
+        }
+        Ok(NearMarks { marks })
+    }
+
+    /// Empties the ignored sets on a file that is written to, as the book does. Allocates nothing.
+    pub fn clear(&mut self, object: u32)
+        ensures cleared { self.new ≡ changed self.old (Clear object) }
+    {
+        clear_all(&mut self.marks, object);
+    }
+
+    /// Lets an access do its next single step by these marks. The step itself allocates nothing; `NoMemory`
+    /// comes from the listeners, and changes nothing.
+    pub fn step(
+        &mut self,
+        access: &mut Access,
+        groups: &mut Groups,
+    ) -> Result<StepOutcome, NoMemory>
+        requires { All (λ listener. listener.next_entry ≤ 2 ^ 31) groups.old }
+        ensures ok { IfOk result (λ outcome. (state : AccessState) → IsAccess self.old access.old state
+            → IsStepped self.old outcome groups.new access.new (access_step groups.old state)) }
+        ensures calls { IsCalledOnce groups.old groups.new }
+        ensures same { self.new ≡ self.old }
+        ensures same_place { access.new.place ≡ access.old.place }
+        ensures err { OnErr result (access.new ≡ access.old) }
+        ensures groups { OnErr result (groups.new ≡ groups.old) }
+    {
+        let _ = &self.marks; // What is kept is a list of marks.
+        access.step(self, groups)
+    }
+}
+
+impl Connectors for NearMarks {
+    ghost shows = { λ it marks. (marks ≡ it) × IsMarkList marks };
+
+    ghost is_list = { λ it marks shown. shown.1 };
+
+    fn next(&mut self, object: u32, after: Order) -> Option<Mark> {
+        on_object(first_behind(&self.marks, object, after), object)
+    }
+}
+
+// The first mark that comes after an order on an object.
+fn first_behind(marks: &[Mark], object: u32, after: Order) -> Option<Mark>
+    requires { Rises marks.now }
+    ensures { result ≡ find (is_behind object after.0) marks.now }
+{
+    let first = marks.partition_point(|mark| !is_behind(mark, object, after));
+    marks.get(first).copied()
+}
+
+// A mark, if there is one and it is on an object.
+fn on_object(found: Option<Mark>, object: u32) -> Option<Mark>
+    ensures { result ≡ if_on object found }
+{
+    match found {
+        Some(mark) if mark.object == object => Some(mark),
+        _ => None,
+    }
+}
+
+// Whether a mark comes after an order on an object.
+fn is_behind(mark: &Mark, object: u32, after: Order) -> bool
+    ensures { result ≡ is_behind object after.0 mark.now }
+{
+    mark.object > object || mark.object == object && mark.order() > after
+}
+
+// Empties the ignored sets of the marks on an object that don't survive, and drops what doesn't stand then.
+fn clear_all(marks: &mut Vec<Mark>, object: u32)
+    ensures { marks.new.items ≡ filter stands (map (cleared object) marks.old.items) }
+{
+    for mark in marks.iter_mut() {
+        clear(mark, object);
+    }
+    marks.retain(|mark| mark.stands());
+}
+
+// Empties the ignored set of a mark on this object, unless it survives.
+fn clear(mark: &mut Mark, object: u32)
+    ensures { mark.new ≡ cleared object mark.old }
+{
+    if mark.object == object && !mark.survives {
+        mark.ignored = 0;
+    }
+}
+
+// The least of the objects near a place whose number is greater than the last.
+fn next_object(place: &Place, last: u32) -> Option<u32>
+    ensures { IsLeast (is_near place.now) last result }
+{
+    let next = lesser(None, place.inode, last);
+    let next = lesser(next, place.mount, last);
+    let next = lesser(next, place.fs, last);
+    match place.parent {
+        Some(parent) => lesser(next, parent, last),
+        None => next,
+    }
+}
+
+// The lesser of a number and what was found before, if the number is greater than the last.
+fn lesser(found: Option<u32>, object: u32, last: u32) -> Option<u32>
+    ensures { (test : ℕ → Bool) → IsLeast test last found
+        → IsLeast (λ other. test other || other == object) last result }
+{
+    match found {
+        Some(least) if least < object => found,
+        _ if object > last => Some(object),
+        _ => found,
+    }
+}
