@@ -1,0 +1,9 @@
+pub mod Accesses
+pub mod Batches
+pub mod Files
+pub mod Groups
+pub mod Marking
+pub mod Next
+pub mod Outcome
+pub mod Run
+pub mod World
