@@ -1,0 +1,16 @@
+pub mod Ahead
+pub mod Due
+pub mod Entries
+pub mod Freed
+pub mod Forms
+pub mod Listeners
+pub mod Moves
+pub mod Numbers
+pub mod Ordered
+pub mod Reclaimed
+pub mod Marked
+pub mod Few
+pub mod Mounted
+pub mod RunsEnd
+pub mod Whole
+pub mod FileTrees

@@ -1,0 +1,5 @@
+pub mod Causes
+pub mod InOrder
+pub mod Reclaiming
+pub mod Runs
+pub mod Whole
