@@ -1,43 +1,43 @@
--- The open accesses as the code keeps them: at their numbers, and counted at their mounts.
-use Rattle.std.specs.Prelude.{◌≡◌, ℕ, ◌+◌, ◌==◌, ◌≤◌, List, [], ◌∷◌, All, Option, Some, None, count_by, if◌then◌else◌}
-use Rattle.std.specs.BTreeMap.{BTreeMap, get}
-use Rattle.std.specs.Map.{count_at, values_of}
+-- The open accesses as they are kept, and what a single step makes of them.
+use Rattle.std.specs.Prelude.{◌≡◌, ℕ, ◌≤◌, ◌==◌, Bool, List, Some, All, count_by, length}
+use Rattle.std.specs.BTreeMap.{is_at}
+use Rattle.std.specs.List.{AllZip}
+use Rattle.std.specs.Map.{keys_of, lookup, values_of}
 use Rattle.std.specs.Ordering.{nat_cmp}
-use Rattle.fan_bits.specs.declared.errno.Errno.TheVariants as errno
-use Rattle.fan_script.specs.declared.reply.Reply.{Reply}
-use Rattle.fan_script.specs.declared.reply.Reply.TheVariants as replies
-use Rattle.fan_script.specs.declared.reply.StepOutcome.{StepOutcome}
-use Rattle.fan_world.specs.Accesses.{AccessState}
-use Rattle.fan_world.specs.Tree.{goes_through}
+use Rattle.fan_access.specs.Access.{AccessState, access_step}
+use Rattle.fan_bits.specs.declared.outcome.StepOutcome.{StepOutcome}
+use Rattle.fan_listener.specs.ListenerState.{ListenerState}
+use Rattle.fan_machine.specs.Accesses.{accesses_after}
+use Rattle.fan_world.specs.declared.open_accesses.OpenAccess.{OpenAccess}
+use Rattle.fan_map.specs.Counts.{number_at}
+use Rattle.fan_world.specs.Machine.{IsOpen}
 
--- the open accesses by rising number, and the greatest number that an access had
+-- the open accesses by their numbers, the greatest number that an access had, and how many accesses can begin
+-- whatever memory is left
 pub record OpenState : Type 0 where
-  pub accesses : List AccessState
+  pub entries : List (ℕ × OpenAccess)
   pub last : ℕ
+  pub spare : ℕ
 
--- how many there are at a number
-abbrev pub count_of : BTreeMap ℕ ℕ → ℕ → ℕ
-count_of counts number = count_at (get nat_cmp counts) number
+-- an open access was begun through a mount
+abbrev pub is_through : ℕ → OpenAccess → Bool
+is_through mount begun = begun.access.place.mount == mount
 
--- there are as many at each number
-abbrev pub HasSame : (ℕ → ℕ) → (ℕ → ℕ) → Type 0
-HasSame before after = (number : ℕ) → after number ≡ before number
+-- how many were begun through a mount
+abbrev pub count_through : List (ℕ × OpenAccess) → ℕ → ℕ
+count_through entries mount = count_by (is_through mount) (values_of entries)
 
--- there is one more at a number, and there are as many at each other
-abbrev pub HasOneMore : (ℕ → ℕ) → (ℕ → ℕ) → ℕ → Type 0
-HasOneMore before after number = (at : ℕ) → after at ≡ before at + (if number == at then 1 else 0)
+-- no number is above the last one, and so there are no more accesses than that; the counts are right
+pub record AreCounted (entries : List (ℕ × OpenAccess)) (through : List (ℕ × ℕ)) (last : ℕ) : Type 0 where
+  pub begun : All (λ number. number ≤ last) (keys_of entries)
+  pub few : length entries ≤ last
+  pub counts : (mount : ℕ) → number_at through mount ≡ count_through entries mount
 
--- an access is kept at its own number, which is one that an access had
-pub record IsAtNumber (last : ℕ) (entry : ℕ × AccessState) : Type 0 where
-  pub own : entry.0 ≡ entry.1.number
-  pub used : entry.0 ≤ last
-
--- each access is at its number, and at each mount stands how many were begun through it
-pub record AreFiled (entries : List (ℕ × AccessState)) (through : BTreeMap ℕ ℕ) (last : ℕ) : Type 0 where
-  pub each : All (IsAtNumber last) entries
-  pub counted : (mount : ℕ) → count_of through mount ≡ count_by (goes_through mount) (values_of entries)
-
--- the reply to a single step, by its outcome, if such an access is open
-abbrev pub step_reply : Option StepOutcome → Reply
-step_reply None = replies.Refused errno.Esrch
-step_reply (Some outcome) = replies.Out (outcome ∷ [])
+-- the open access with a number did a step: the one that it stands for does the same step
+pub record HasStepped (number : ℕ) (outcome : StepOutcome) (groups new_groups : List ListenerState)
+    (new_entries : List (ℕ × OpenAccess)) (accesses : List (ℕ × AccessState)) : Type 0 where
+  pub access : AccessState
+  pub found : lookup (is_at (nat_cmp number)) accesses ≡ Some access
+  pub answers : outcome ≡ (access_step groups access).outcome
+  pub listeners : new_groups ≡ (access_step groups access).groups
+  pub kept : AllZip IsOpen new_entries (accesses_after number (access_step groups access) accesses)

@@ -1,40 +1,31 @@
-// The file tree with its mounts, and the steps that change them. A refused step changes nothing.
-ghost use Rattle.std.specs.Prelude.{◌≡◌, ℕ, IfOk, OnErr, is_some, true};
-ghost use Rattle.fan_bits.specs.Marks.{IsMarkList};
+// The file tree with its mounts. What is refused changes nothing, and so does want of memory.
+ghost use Rattle.std.specs.Prelude.{◌≡◌, ℕ, List, IfErr, IfOk, OnErr, OnOk, Ok, Err, is_some, true};
 ghost use Rattle.fan_bits.specs.Places.{IsPlace};
-ghost use Rattle.fan_mounts.specs.Mounts.{mount_of, opening_mounts, unmounted};
-ghost use Rattle.fan_mounts.specs.Reaches.{place_of};
-ghost use Rattle.fan_tree.specs.Tree.{made, opening_tree};
-ghost use Rattle.fan_world.specs.Batches.{noted};
-ghost use Rattle.fan_world.specs.Retiring.{noted_with};
-ghost use Rattle.fan_world.specs.Tree.{fs_made, made_at, made_reply, mounted_at, umount_reply, unmounted_at};
+ghost use Rattle.fan_mounts.specs.Mounts.{initial_mounts, mount_of, mounted, unmounted};
+ghost use Rattle.fan_mounts.specs.Reaches.{Reaches, place_of};
+ghost use Rattle.fan_tree.specs.Tree.{IsRefused, initial_tree, made, made_fs, root_of};
 
-use super::batches::Replied;
-use super::marks::{Marks, retire};
-use super::open_accesses::OpenAccesses;
-use fan_bits::{Change, Errno, Place};
+use fan_bits::{Errno, Place};
 use fan_io::NoMemory;
-use fan_marks::MarkBook;
-use fan_mounts::{Mounts, split_last};
-use fan_script::Reply;
+use fan_mounts::Mounts;
 use fan_tree::{Tree, TreeRefused};
 use std::alloc::Global;
 
 /// The file tree and its mounts.
 #[derive(Drop)]
 pub(crate) struct Files {
-    pub(crate) tree: Tree,
-    pub(crate) mounts: Mounts,
+    tree: Tree,
+    mounts: Mounts,
 }
 
 impl Files {
     /// A filesystem with its root, mounted at `/`.
     pub(crate) fn new(alloc: Global) -> Result<Files, NoMemory>
-        ensures tree { IfOk result (λ files. files.tree ≡ opening_tree) }
-        ensures mounts { IfOk result (λ files. files.mounts ≡ opening_mounts) }
+        ensures tree { IfOk result (λ files. files.tree ≡ initial_tree) }
+        ensures mounts { IfOk result (λ files. files.mounts ≡ initial_mounts) }
     {
         Ok(Files {
-            tree: Tree::new(alloc)?,
+            tree: Tree::new(alloc),
             mounts: Mounts::new(alloc)?,
         })
     }
@@ -49,135 +40,81 @@ impl Files {
         self.mounts.place(&self.tree, path)
     }
 
-    /// Makes a file or a directory: EEXIST at `/`, the walk of the directory, ENOTDIR, EEXIST, ENOSPC.
-    #[tactic(auto, unfolding(crate::specs::Tree::made_at, fan_mounts::specs::Reaches::place_of))]
-    pub(crate) fn make_entry(&mut self, path: &[u8], is_dir: bool) -> Result<Reply, NoMemory>
-        ensures ok { IfOk result (λ reply. (reply, self.new.tree)
-            ≡ made_at self.old.tree self.old.mounts path.now is_dir) }
+    /// Whether there is a filesystem with a number.
+    pub(crate) fn has_fs(&self, fs: u32) -> bool
+        ensures { result ≡ is_some (root_of self.now.tree fs) }
+    {
+        self.tree.root(fs).is_some()
+    }
+
+    /// Makes a file or a directory in a directory, and gives its number: ENOENT, ENOTDIR, EEXIST, ENOSPC.
+    pub(crate) fn make_entry(
+        &mut self,
+        dir: u32,
+        name: &[u8],
+        is_dir: bool,
+    ) -> Result<Result<u32, Errno>, NoMemory>
+        ensures made { IfOk result (λ done. IfOk done (λ inode.
+            made self.old.tree dir name.now is_dir ≡ Ok (inode, self.new.tree))) }
+        ensures refused { IfOk result (λ done. IfErr done (λ errno.
+            made self.old.tree dir name.now is_dir ≡ Err errno)) }
+        ensures same { IfOk result (λ done. OnErr done (self.new ≡ self.old)) }
         ensures mounts { self.new.mounts ≡ self.old.mounts }
         ensures err { OnErr result (self.new ≡ self.old) }
     {
-        let Some((dir, name)) = split_last(path) else {
-            return Ok(Reply::Refused(Errno::Eexist));
-        };
-        match self.place(dir) {
-            Err(refusal) => Ok(Reply::Refused(refusal)),
-            Ok(place) => make_in(&mut self.tree, place.inode, name, is_dir),
-        }
+        settled(self.tree.make(dir, name, is_dir))
     }
 
-    /// Makes a filesystem: ENOSPC.
-    #[tactic(auto, unfolding(crate::specs::Tree::fs_made))]
-    pub(crate) fn make_fs(&mut self) -> Result<Reply, NoMemory>
-        ensures ok { IfOk result (λ reply. (reply, self.new.tree) ≡ fs_made self.old.tree) }
+    /// Makes a filesystem with its root, and gives its number: ENOSPC.
+    pub(crate) fn make_fs(&mut self) -> Result<Result<u32, Errno>, NoMemory>
+        ensures made { IfOk result (λ done. IfOk done (λ fs.
+            made_fs self.old.tree ≡ Ok (fs, self.new.tree))) }
+        ensures refused { IfOk result (λ done. IfErr done (λ errno.
+            made_fs self.old.tree ≡ Err errno)) }
+        ensures same { IfOk result (λ done. OnErr done (self.new ≡ self.old)) }
         ensures mounts { self.new.mounts ≡ self.old.mounts }
         ensures err { OnErr result (self.new ≡ self.old) }
     {
-        match self.tree.make_fs() {
-            Ok(number) => Ok(Reply::Fs(number)),
-            Err(TreeRefused::No(refusal)) => Ok(Reply::Refused(refusal)),
-            Err(TreeRefused::NoMemory) => Err(NoMemory),
-        }
+        settled(self.tree.make_fs())
     }
 
-    /// Mounts a filesystem on a directory: ENOENT, the walk, ENOTDIR, EBUSY, ENOSPC.
-    #[tactic(auto, unfolding(crate::specs::Tree::mounted_at))]
-    pub(crate) fn mount(&mut self, fs: u32, path: &[u8]) -> Result<Reply, NoMemory>
-        ensures ok { IfOk result (λ reply. (reply, self.new.tree, self.new.mounts)
-            ≡ mounted_at self.old.tree self.old.mounts fs path.now) }
+    /// Mounts a filesystem on a place that some path reaches, and gives the number of the mount: ENOENT,
+    /// ENOTDIR, EBUSY, ENOSPC.
+    pub(crate) fn mount(&mut self, fs: u32, at: Place) -> Result<Result<u32, Errno>, NoMemory>
+        requires reached { (path : List ℕ) × Reaches self.old.tree self.old.mounts path at }
+        ensures mounted { IfOk result (λ done. IfOk done (λ mount.
+            mounted self.old.tree self.old.mounts fs at
+            ≡ Ok (mount, self.new.tree, self.new.mounts))) }
+        ensures refused { IfOk result (λ done. IfErr done (λ errno.
+            mounted self.old.tree self.old.mounts fs at ≡ Err errno)) }
+        ensures same { IfOk result (λ done. OnErr done (self.new ≡ self.old)) }
         ensures err { OnErr result (self.new ≡ self.old) }
     {
-        if self.tree.root(fs).is_none() {
-            return Ok(Reply::Refused(Errno::Enoent));
-        }
-        let place = match self.place(path) {
-            Err(refusal) => return Ok(Reply::Refused(refusal)),
-            Ok(place) => place,
-        };
-        match self.mounts.mount(&mut self.tree, fs, place) {
-            Ok(number) => Ok(Reply::Mount(number)),
-            Err(TreeRefused::No(refusal)) => Ok(Reply::Refused(refusal)),
-            Err(TreeRefused::NoMemory) => Err(NoMemory),
-        }
+        settled(self.mounts.mount(&mut self.tree, fs, at))
+    }
+
+    /// Takes a mount away: EBUSY for the one at `/`, and if a mount stands on a directory of it. Allocates
+    /// nothing.
+    pub(crate) fn unmount(&mut self, mount: u32) -> Result<(), Errno>
+        requires there { is_some (mount_of self.old.mounts mount) ≡ true }
+        ensures unmounted { OnOk result (unmounted self.old.mounts mount ≡ Ok self.new.mounts) }
+        ensures refused { IfErr result (λ errno. unmounted self.old.mounts mount ≡ Err errno) }
+        ensures tree { self.new.tree ≡ self.old.tree }
+        ensures err { OnErr result (self.new ≡ self.old) }
+    {
+        self.mounts.umount(mount)
     }
 }
 
-// Makes a file or a directory in a directory.
-fn make_in(tree: &mut Tree, dir: u32, name: &[u8], is_dir: bool) -> Result<Reply, NoMemory>
-    ensures ok { IfOk result (λ reply. (reply, tree.new)
-        ≡ made_reply (made tree.old dir name.now is_dir) tree.old) }
-    ensures err { OnErr result (tree.new ≡ tree.old) }
+// A change of the tree that was made or refused, and want of memory apart from that.
+fn settled(made: Result<u32, TreeRefused>) -> Result<Result<u32, Errno>, NoMemory>
+    ensures made { IfOk result (λ done. IfOk done (λ number. made ≡ Ok number)) }
+    ensures refused { IfOk result (λ done. IfErr done (λ errno. made ≡ Err (TreeRefused.No errno))) }
+    ensures err { OnErr result (made ≡ Err TreeRefused.NoMemory) }
 {
-    match tree.make(dir, name, is_dir) {
-        Ok(number) => Ok(Reply::Inode(number)),
-        Err(TreeRefused::No(refusal)) => Ok(Reply::Refused(refusal)),
+    match made {
+        Ok(number) => Ok(Ok(number)),
+        Err(TreeRefused::No(errno)) => Ok(Err(errno)),
         Err(TreeRefused::NoMemory) => Err(NoMemory),
     }
-}
-
-// Removes a mount and drops its marks. Takes no memory.
-#[tactic(auto, unfolding(crate::specs::Batches::retired_by))]
-fn remove_mount(mounts: &mut Mounts, book: &mut MarkBook, mount: u32) -> Replied
-    requires mount { is_some (mount_of mounts.old mount) ≡ true }
-    requires whole { IsMarkList book.old.marks }
-    ensures whole { IsMarkList book.new.marks }
-    ensures done { (last : ℕ) →
-        (result.reply, mounts.new, book.new.marks, noted result.retired last)
-        ≡ umount_reply (unmounted mounts.old mount) mounts.old book.old.marks mount last }
-{
-    match mounts.umount(mount) {
-        Err(refusal) => Replied::refused(refusal),
-        Ok(()) => Replied::done(retire(book, &Change::DropObject { object: mount })),
-    }
-}
-
-// Removes the mount whose root a path reaches: the walk, EINVAL, EBUSY. Takes no memory.
-#[tactic(auto, unfolding(crate::specs::Tree::unmounted_at))]
-fn take_mount(
-    files: &mut Files,
-    book: &mut MarkBook,
-    accesses: &OpenAccesses,
-    path: &[u8],
-) -> Replied
-    requires { IsMarkList book.old.marks }
-    ensures whole { IsMarkList book.new.marks }
-    ensures done { (last : ℕ) →
-        (result.reply, files.new.mounts, book.new.marks, noted result.retired last)
-        ≡ unmounted_at files.old.tree files.old.mounts book.old.marks accesses.now.accesses last path.now }
-    ensures tree { files.new.tree ≡ files.old.tree }
-{
-    let place = match files.place(path) {
-        Err(refusal) => return Replied::refused(refusal),
-        Ok(place) => place,
-    };
-    if place.parent.is_some() {
-        return Replied::refused(Errno::Einval);
-    }
-    if accesses.has_through(place.mount) {
-        return Replied::refused(Errno::Ebusy);
-    }
-    remove_mount(&mut files.mounts, book, place.mount)
-}
-
-/// Removes the mount whose root a path reaches: the walk, EINVAL, EBUSY. Its marks go.
-pub(crate) fn umount(
-    files: &mut Files,
-    marks: &mut Marks,
-    accesses: &OpenAccesses,
-    path: &[u8],
-) -> Result<Reply, NoMemory>
-    requires { IsMarkList marks.old.book.marks }
-    ensures ok { IfOk result (λ reply.
-        (reply, files.new.mounts, marks.new.book.marks, marks.new.retirement.state)
-        ≡ noted_with marks.old.retirement.state (unmounted_at files.old.tree files.old.mounts
-        marks.old.book.marks accesses.now.accesses accesses.now.last path.now)) }
-    ensures tree { files.new.tree ≡ files.old.tree }
-    ensures whole { IsMarkList marks.new.book.marks }
-    ensures files { OnErr result (files.new ≡ files.old) }
-    ensures marks { OnErr result (marks.new.book.marks ≡ marks.old.book.marks) }
-    ensures retirement { OnErr result (marks.new.retirement.state ≡ marks.old.retirement.state) }
-{
-    marks.retirement.reserve()?;
-    let done = take_mount(files, &mut marks.book, accesses, path);
-    Ok(marks.retirement.note(done, accesses.last()))
 }

@@ -2,31 +2,17 @@
 //! time.
 #![tactic(auto)]
 
-mod access;
-mod accesses;
-mod batches;
-mod counts;
+mod access_steps;
+mod file_steps;
 mod files;
-mod groups;
-mod interests;
-mod laws;
-mod listeners;
+mod group_steps;
 mod machine;
-mod marks;
+mod mark_steps;
 mod open_accesses;
-mod reclaim_law;
-mod run_law;
-mod stepping;
+mod refused;
+mod retirement;
 #[cfg(test)]
 mod tests;
 mod world;
 
-pub use access::{Access, Deed, Opening, WaitingFor};
-pub use batches::Retired;
-pub use laws::{
-    accesses_ask_then_tell, finished_accesses_stay_so, known_operations_are_built,
-    outcomes_have_causes,
-};
-pub use reclaim_law::marks_are_reclaimed_once;
-pub use run_law::every_run_ends;
 pub use world::World;

@@ -1,213 +1,137 @@
-// The parts of the machine, and what each step does to them.
-ghost use Rattle.std.specs.Prelude.{◌≡◌, ℕ, ◌-◌, ◌<◌, ◌^◌, List, Option, All, IfOk, OnErr, length};
-ghost use Rattle.fan_bits.specs.Marks.{IsMarkList};
-ghost use Rattle.fan_world.specs.Bounds.{AreBounded};
-ghost use Rattle.fan_world.specs.Sound.{FindFew, Stands, opens};
-ghost use Rattle.fan_world.specs.World.{next, opening_world};
+// The parts of the machine, and which of them does a step.
+ghost use Rattle.std.specs.Prelude.{◌≡◌, ◌+◌, ◌<◌, ◌^◌, IfOk, OnErr};
+ghost use Rattle.fan_machine.specs.Batches.{graced};
+ghost use Rattle.fan_machine.specs.Next.{attempted};
+ghost use Rattle.fan_machine.specs.World.{WorldState, initial_world};
+ghost use Rattle.fan_world.specs.Bounds.{IsSafe};
+ghost use Rattle.fan_world.specs.Done.{IsDone};
+ghost use Rattle.fan_world.specs.Machine.{IsMachine};
 
-use super::access::Opening;
-use super::accesses::{advance, begin};
-use super::files::{Files, umount};
-use super::groups::{Groups, close_group};
-use super::marks::{MarkLine, Marks, mark};
+use super::files::Files;
 use super::open_accesses::OpenAccesses;
+use super::refused::Refused;
+use super::retirement::Retirement;
+use fan_bits::Errno;
+use fan_groups::Groups;
 use fan_io::NoMemory;
-use fan_script::{OpWord, Reply, Step};
+use fan_marks::MarkBook;
+use fan_script::{Reply, Step};
 use std::alloc::Global;
 use std::marker::Model;
 
-/// The parts of the machine. Where memory runs out, a step changes nothing.
+/// The parts of the machine. A step that is refused, or finds no memory, changes nothing.
 #[derive(Drop)]
 pub(crate) struct Machine {
-    alloc: Global,
-    files: Files,
-    groups: Groups,
-    marks: Marks,
-    accesses: OpenAccesses,
+    pub(crate) alloc: Global,
+    pub(crate) files: Files,
+    pub(crate) groups: Groups,
+    pub(crate) marks: MarkBook,
+    pub(crate) retirement: Retirement,
+    pub(crate) accesses: OpenAccesses,
+    steps: u32,
 }
 
 impl Model for Machine {
-    ghost use Rattle.fan_world.specs.World.{WorldState};
+    ghost use Rattle.fan_world.specs.Machine.{Parts};
 
-    ghost Value = { WorldState };
+    ghost Value = { Parts };
 
     ghost view = { λ m. record {
       tree = m.files.tree;
       mounts = m.files.mounts;
-      listeners = m.groups;
-      marks = m.marks.book.marks;
-      retirement = m.marks.retirement.state;
-      accesses = m.accesses.accesses;
+      groups = m.groups;
+      marks = m.marks.marks;
+      waiting = m.retirement.waiting;
+      batch = m.retirement.batch;
+      accesses = m.accesses.entries;
       last_access = m.accesses.last;
+      steps = m.steps;
     } };
 }
 
 impl Machine {
     /// A filesystem with its root, mounted at `/`, and no group.
     pub(crate) fn new(alloc: Global) -> Result<Machine, NoMemory>
-        ensures { IfOk result (λ machine. machine ≡ opening_world) }
+        ensures machine { IfOk result (λ machine. IsMachine machine initial_world) }
+        ensures safe { IfOk result (λ machine. IsSafe 0 machine) }
+        ensures steps { IfOk result (λ machine. machine.steps ≡ 0) }
     {
         Ok(Machine {
             alloc,
             files: Files::new(alloc)?,
             groups: Groups::new(alloc),
-            marks: Marks::new(alloc)?,
+            marks: MarkBook::new(alloc)?,
+            retirement: Retirement::new(),
             accesses: OpenAccesses::new(alloc),
+            steps: 0,
         })
     }
 
-    /// `mkfile`
-    #[tactic(auto, unfolding(crate::specs::World::next))]
-    pub(crate) fn make_file(&mut self, path: &[u8]) -> Result<Reply, NoMemory>
-        ensures ok { IfOk result (λ reply.
-            (reply, self.new) ≡ next self.old (Step.MkFile path.now)) }
+    /// How many steps were counted.
+    pub(crate) fn steps(&self) -> u32
+        ensures { result ≡ self.now.steps }
+    {
+        self.steps
+    }
+
+    /// Counts a step that was done or refused.
+    pub(crate) fn count_step(&mut self)
+        requires { self.old.steps < 2 ^ 30 }
+        ensures { self.new ≡ record self.old { steps = self.old.steps + 1 } }
+    {
+        self.steps += 1;
+    }
+
+    /// Does one step, without counting it, and gives its reply.
+    #[tactic(auto, unfolding(fan_machine::specs::Next::attempted))]
+    pub(crate) fn attempt(&mut self, step: &Step) -> Result<Reply, Refused>
+        requires few { self.old.steps < 2 ^ 30 }
+        requires safe { IsSafe self.old.steps self.old }
+        ensures done { (world : WorldState) → IsMachine self.old world
+            → IsDone self.new result (attempted world step.now) }
+        ensures safe { IsSafe (self.old.steps + 1) self.new }
+        ensures steps { self.new.steps ≡ self.old.steps }
         ensures err { OnErr result (self.new ≡ self.old) }
     {
-        self.files.make_entry(path, false)
+        match step {
+            Step::MkFile { path } => self.make_entry(path.as_slice(), false),
+            Step::MkDir { path } => self.make_entry(path.as_slice(), true),
+            Step::MkFs => self.make_fs(),
+            Step::Mount { fs, path } => self.mount(*fs, path.as_slice()),
+            Step::Umount { path } => self.umount(path.as_slice()),
+            Step::Limit { .. } => Err(Refused::No(Errno::Einval)),
+            Step::Init { flags } => self.init(*flags),
+            Step::Mark {
+                group,
+                flags,
+                mask,
+                path,
+            } => self.mark(*group, *flags, *mask, path.as_slice()),
+            Step::Begin {
+                access,
+                pid,
+                tid,
+                op,
+                path,
+                ..
+            } => self.begin(*access, *pid, *tid, *op, path.as_slice()),
+            Step::Advance { access } => self.advance(*access),
+            Step::Read { group, size } => self.read(*group, *size),
+            Step::Write { group, bytes } => self.write(*group, bytes.as_slice()),
+            Step::Close { group } => self.close(*group),
+            Step::Grace => Ok(self.grace()),
+        }
     }
 
-    /// `mkdir`
-    #[tactic(auto, unfolding(crate::specs::World::next))]
-    pub(crate) fn make_dir(&mut self, path: &[u8]) -> Result<Reply, NoMemory>
-        ensures ok { IfOk result (λ reply.
-            (reply, self.new) ≡ next self.old (Step.MkDir path.now)) }
-        ensures err { OnErr result (self.new ≡ self.old) }
+    /// `grace`: reclaims retired marks, and starts a batch of those that wait.
+    #[tactic(auto, unfolding(fan_machine::specs::Batches::graced))]
+    fn grace(&mut self) -> Reply
+        requires safe { IsSafe self.old.steps self.old }
+        ensures done { (world : WorldState) → IsMachine self.old world
+            → IsDone self.new (Ok result) (graced world) }
+        ensures safe { IsSafe (self.old.steps + 1) self.new }
+        ensures steps { self.new.steps ≡ self.old.steps }
     {
-        self.files.make_entry(path, true)
-    }
-
-    /// `mkfs`
-    #[tactic(auto, unfolding(crate::specs::World::next))]
-    pub(crate) fn make_fs(&mut self) -> Result<Reply, NoMemory>
-        ensures ok { IfOk result (λ reply. (reply, self.new) ≡ next self.old Step.MkFs) }
-        ensures err { OnErr result (self.new ≡ self.old) }
-    {
-        self.files.make_fs()
-    }
-
-    /// `mount`
-    #[tactic(auto, unfolding(crate::specs::World::next))]
-    pub(crate) fn mount(&mut self, fs: u32, path: &[u8]) -> Result<Reply, NoMemory>
-        ensures ok { IfOk result (λ reply.
-            (reply, self.new) ≡ next self.old (Step.Mount fs path.now)) }
-        ensures err { OnErr result (self.new ≡ self.old) }
-    {
-        self.files.mount(fs, path)
-    }
-
-    /// `umount`
-    #[tactic(auto, unfolding(crate::specs::World::next))]
-    pub(crate) fn umount(&mut self, path: &[u8]) -> Result<Reply, NoMemory>
-        requires { IsMarkList self.old.marks }
-        ensures ok { IfOk result (λ reply.
-            (reply, self.new) ≡ next self.old (Step.Umount path.now)) }
-        ensures err { OnErr result (self.new ≡ self.old) }
-        ensures whole { IsMarkList self.new.marks }
-    {
-        umount(&mut self.files, &mut self.marks, &self.accesses, path)
-    }
-
-    /// `init`
-    #[tactic(auto, unfolding(crate::specs::World::next))]
-    pub(crate) fn init(&mut self, flags: u32) -> Result<Reply, NoMemory>
-        requires { length self.old.listeners < 2 ^ 30 }
-        ensures ok { IfOk result (λ reply. (reply, self.new) ≡ next self.old (Step.Init flags)) }
-        ensures err { OnErr result (self.new ≡ self.old) }
-    {
-        self.groups.make(flags)
-    }
-
-    /// `mark`
-    #[tactic(auto, unfolding(crate::specs::World::next))]
-    pub(crate) fn mark(&mut self, line: MarkLine, path: &[u8]) -> Result<Reply, NoMemory>
-        requires classes { All (Stands (opens self.old.listeners)) self.old.marks }
-        requires whole { IsMarkList self.old.marks }
-        ensures ok { IfOk result (λ reply. (reply, self.new)
-            ≡ next self.old (Step.Mark line.group line.flags line.mask path.now)) }
-        ensures err { OnErr result (self.new ≡ self.old) }
-        ensures whole { IsMarkList self.new.marks }
-    {
-        let last = self.accesses.last();
-        mark(&self.groups, &self.files, &mut self.marks, last, line, path)
-    }
-
-    /// `begin`, of an operation with one path
-    #[tactic(auto, unfolding(crate::specs::World::next))]
-    pub(crate) fn begin(
-        &mut self,
-        access: u32,
-        pid: u32,
-        tid: u32,
-        op: OpWord,
-        path: &[u8],
-    ) -> Result<Reply, NoMemory>
-        requires few { FindFew self.old.marks }
-        requires whole { IsMarkList self.old.marks }
-        ensures ok { IfOk result (λ reply. (second : Option (List ℕ)) →
-            (reply, self.new) ≡ next self.old (Step.Begin access pid tid op path.now second)) }
-        ensures err { OnErr result (self.new ≡ self.old) }
-        ensures whole { IsMarkList self.new.marks }
-    {
-        let opening = Opening::new(access, pid, tid);
-        let accesses = &mut self.accesses;
-        begin(
-            self.alloc,
-            &self.files,
-            &mut self.marks,
-            accesses,
-            opening,
-            op,
-            path,
-        )
-    }
-
-    /// `step`, of which `run` is made
-    #[tactic(auto, unfolding(crate::specs::World::next))]
-    pub(crate) fn advance(&mut self, access: u32) -> Result<Reply, NoMemory>
-        requires { AreBounded (2 ^ 30) self.old.listeners }
-        ensures ok { IfOk result (λ reply.
-            (reply, self.new) ≡ next self.old (Step.Advance access)) }
-        ensures err { OnErr result (self.new ≡ self.old) }
-    {
-        advance(self.alloc, &mut self.groups, &mut self.accesses, access)
-    }
-
-    /// `read`
-    #[tactic(auto, unfolding(crate::specs::World::next))]
-    pub(crate) fn read(&mut self, group: u32, size: u32) -> Result<Reply, NoMemory>
-        requires { AreBounded (2 ^ 30 - 1) self.old.listeners }
-        ensures ok { IfOk result (λ reply.
-            (reply, self.new) ≡ next self.old (Step.Read group size)) }
-        ensures err { OnErr result (self.new ≡ self.old) }
-    {
-        self.groups.read(group, size)
-    }
-
-    /// `write`; takes no memory
-    #[tactic(auto, unfolding(crate::specs::World::next))]
-    pub(crate) fn write(&mut self, group: u32, bytes: &[u8]) -> Reply
-        ensures { (result, self.new) ≡ next self.old (Step.Write group bytes.now) }
-    {
-        self.groups.write(group, bytes)
-    }
-
-    /// `close`
-    #[tactic(auto, unfolding(crate::specs::World::next))]
-    pub(crate) fn close(&mut self, group: u32) -> Result<Reply, NoMemory>
-        requires { IsMarkList self.old.marks }
-        ensures ok { IfOk result (λ reply. (reply, self.new) ≡ next self.old (Step.Close group)) }
-        ensures err { OnErr result (self.new ≡ self.old) }
-        ensures whole { IsMarkList self.new.marks }
-    {
-        let last = self.accesses.last();
-        close_group(&mut self.groups, &mut self.marks, last, group)
-    }
-
-    /// `grace`; takes no memory
-    #[tactic(auto, unfolding(crate::specs::World::next))]
-    pub(crate) fn grace(&mut self) -> Reply
-        ensures { (result, self.new) ≡ next self.old Step.Grace }
-    {
-        Reply::Reclaimed(self.marks.retirement.grace(&self.accesses))
+        Reply::Reclaimed(self.retirement.grace(&self.accesses))
     }
 }

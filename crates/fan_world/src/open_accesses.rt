@@ -1,173 +1,191 @@
-// The open accesses: found by their numbers, and counted by their mounts.
-ghost use Rattle.std.specs.Prelude.{◌≡◌, [], ◌∷◌, ◌++◌, ◌<◌, ◌≤◌, ◌^◌, Some, None, IfOk, IfSome, OnErr, OnOk, find, if◌then◌else◌, nat_le};
-ghost use Rattle.std.specs.BTreeMap.{insert_entry};
-ghost use Rattle.std.specs.List.{list_any};
+// The open accesses by their numbers.
+ghost use Rattle.std.specs.Prelude.{◌≡◌, ◌≤◌, ◌<◌, ◌^◌, ℕ, List, [], All, IfNone, IfOk, IfSome, None, OnErr, OnOk};
+ghost use Rattle.std.specs.BTreeMap.{insert_entry, is_at};
+ghost use Rattle.std.specs.List.{AllZip, list_any};
+ghost use Rattle.std.specs.Map.{keys_of, lookup, remove_entry, set_value, values_of};
 ghost use Rattle.std.specs.Ordering.{nat_cmp};
-ghost use Rattle.fan_listener.specs.First.{change_first, without_first};
-ghost use Rattle.fan_world.specs.Accesses.{AccessState, has_number, kept_access};
-ghost use Rattle.fan_world.specs.Bounds.{AreBounded};
-ghost use Rattle.fan_world.specs.Opened.{step_reply};
-ghost use Rattle.fan_world.specs.Tree.{goes_through};
-ghost use Rattle.fan_world.specs.World.{advanced};
+ghost use Rattle.fan_access.specs.Access.{AccessState};
+ghost use Rattle.fan_listener.specs.Groups.{IsCalledOnce};
+ghost use Rattle.fan_world.specs.Machine.{IsOpen};
+ghost use Rattle.fan_world.specs.Opened.{HasStepped, is_through};
+ghost use Rattle.fan_world.specs.Retired.{has_up_to};
 
-use super::access::Access;
-use super::counts::{self, Counts};
-use super::groups::Groups;
-use super::stepping::step;
+use fan_access::{Access, StepOutcome};
+use fan_groups::Groups;
 use fan_io::NoMemory;
-use fan_script::StepOutcome;
+use fan_map::Map;
+use fan_map::counts::{add_one, number_at, take_one};
+use fan_near::NearMarks;
 use std::alloc::Global;
-use std::collections::BTreeMap;
 use std::marker::Model;
+use std::ops::Bound;
 
-/// The open accesses, by rising number, and the greatest number that an access had.
+/// An open access, and the marks by which it goes.
+#[derive(Drop)]
+pub(crate) struct OpenAccess {
+    /// Where it stands.
+    pub(crate) access: Access,
+    /// The marks near its place, as they stood at its begin.
+    pub(crate) marks: NearMarks,
+}
+
+/// The open accesses, found by their numbers, and the greatest number that an access had.
 #[derive(Drop)]
 pub(crate) struct OpenAccesses {
-    by_number: BTreeMap<u32, Access>,
-    // How many of them were begun through each mount.
-    through: Counts,
+    alloc: Global,
+    by_number: Map<u32, OpenAccess>,
+    // How many were begun through each mount.
+    through: Map<u32, u32>,
     last: u32,
 }
 
 impl Model for OpenAccesses {
-    ghost use Rattle.std.specs.Map.{values_of};
-    ghost use Rattle.fan_world.specs.Opened.{AreFiled, OpenState};
+    ghost use Rattle.std.specs.Prelude.{min};
+    ghost use Rattle.fan_world.specs.Opened.{AreCounted, OpenState};
 
     ghost Value = { OpenState };
 
-    ghost view = { λ o. record { accesses = values_of o.by_number.entries; last = o.last } };
+    ghost view = { λ a. record {
+      entries = a.by_number.entries;
+      last = a.last;
+      spare = min a.by_number.spare a.through.spare;
+    } };
 
-    ghost invariant = { λ o. AreFiled o.by_number.entries o.through o.last };
+    ghost invariant = { λ a. AreCounted a.by_number.entries a.through.entries a.last };
 }
 
 impl OpenAccesses {
-    /// No access is open, and none had a number.
+    /// No access is open, and none has begun. Allocates nothing.
     pub(crate) fn new(alloc: Global) -> OpenAccesses
-        ensures { result ≡ record { accesses = []; last = 0 } }
+        ensures entries { result.entries ≡ [] }
+        ensures last { result.last ≡ 0 }
     {
         OpenAccesses {
-            by_number: BTreeMap::new(alloc),
-            through: BTreeMap::new(alloc),
+            alloc,
+            by_number: Map::new(alloc),
+            through: Map::new(alloc),
             last: 0,
         }
     }
 
-    /// The greatest number that an access had, 0 before the first.
+    /// The greatest number that an access had, whether it is open or not; 0 if none has begun.
     pub(crate) fn last(&self) -> u32
-        ensures { result ≡ self.now.last }
+        ensures last { result ≡ self.now.last }
+        ensures begun { All (λ number. number ≤ self.now.last) (keys_of self.now.entries) }
     {
         self.last
     }
 
-    /// Whether an access that was begun through a mount is open.
+    /// Whether an open access was begun through a mount.
     pub(crate) fn has_through(&self, mount: u32) -> bool
-        ensures { result ≡ list_any (goes_through mount) self.now.accesses }
+        ensures { result ≡ list_any (is_through mount) (values_of self.now.entries) }
     {
-        counts::count(&self.through, mount) > 0
+        number_at(&self.through, mount) > 0
     }
 
-    /// Whether an access with a number up to this one is open. The first has the least number.
-    pub(crate) fn has_up_to(&self, last: u32) -> bool
-        ensures { result ≡ list_any (λ access. nat_le access.number last) self.now.accesses }
+    /// Whether an open access has a number up to this one.
+    pub(crate) fn has_up_to(&self, number: u32) -> bool
+        ensures { result ≡ has_up_to self.now.entries number }
     {
-        match self.by_number.first_key_value() {
-            Some((number, _)) => *number <= last,
+        match self.by_number.iter().next() {
+            Some((least, _)) => *least <= number,
             None => false,
         }
     }
 
-    /// Adds an access whose number is greater than any before.
-    pub(crate) fn add(&mut self, access: Access) -> Result<(), NoMemory>
-        requires { self.old.last < access.number }
-        ensures ok { OnOk result (self.new ≡ record {
-          accesses = self.old.accesses ++ access ∷ [];
-          last = access.number;
-        }) }
-        ensures fresh { find (has_number access.number) self.old.accesses ≡ None }
-        ensures err { OnErr result (self.new ≡ self.old) }
+    /// Makes room for an access, so that it can begin whatever memory is left then.
+    ///
+    /// # Errors
+    /// `NoMemory` if there was no room and none could be made.
+    pub(crate) fn reserve(&mut self) -> Result<(), NoMemory>
+        ensures room { OnOk result (1 ≤ self.new.spare) }
+        ensures entries { self.new.entries ≡ self.old.entries }
+        ensures last { self.new.last ≡ self.old.last }
+        ensures full { OnErr result (self.old.spare ≡ 0) }
     {
-        let number = access.number();
-        let mount = access.mount();
-        // Fewer than 2^63 are open, so one more can be counted.
-        let _open = self.by_number.len();
-        counts::add(&mut self.through, mount)?;
-        if let Err(failed) = put(&mut self.by_number, access) {
-            counts::take(&mut self.through, mount);
-            return Err(failed);
-        }
-        self.last = number;
+        self.by_number.reserve()?;
+        self.through.reserve()?;
         Ok(())
     }
 
-    /// Puts an access in the place of the one with its number, which is of the same place. Takes no
-    /// memory.
-    pub(crate) fn replace(&mut self, access: Access)
-        requires { IfSome (find (has_number access.number) self.old.accesses)
-            (λ old. old.place ≡ access.place) }
-        ensures { self.new ≡ record self.old {
-          accesses = change_first (has_number access.number) (λ _. access) self.old.accesses;
-        } }
+    /// Opens an access with a number above all before it. Allocates nothing.
+    pub(crate) fn add_reserved(&mut self, number: u32, begun: OpenAccess)
+        requires room { 1 ≤ self.old.spare }
+        requires above { self.old.last < number }
+        ensures entries { self.new.entries ≡ insert_entry nat_cmp self.old.entries number begun }
+        ensures last { self.new.last ≡ number }
     {
-        let Some(old) = self.by_number.get_mut(&access.number()) else {
-            return;
-        };
-        *old = access;
+        add_one(&mut self.through, begun.access.place().mount);
+        self.by_number.insert_reserved(number, begun);
+        self.last = number;
     }
 
-    // Takes out the access with a number.
-    fn remove(&mut self, number: u32)
-        ensures { self.new ≡ record self.old {
-          accesses = without_first (has_number number) self.old.accesses;
-        } }
-    {
-        if let Some(access) = self.by_number.remove(&number) {
-            counts::take(&mut self.through, access.mount());
-        }
-    }
-
-    /// Does the next single step of the access with a number, and gives its outcome; None where no such
-    /// access is open. One that it finishes is taken out.
+    /// Lets the access with a number do its next single step, after which it is open no more if the
+    /// outcome ends it; None exactly if no such access is open. The step itself allocates nothing;
+    /// `NoMemory` comes from the listeners, and changes nothing.
     pub(crate) fn step(
         &mut self,
         groups: &mut Groups,
         number: u32,
     ) -> Result<Option<StepOutcome>, NoMemory>
-        requires { AreBounded (2 ^ 30) groups.old }
-        ensures ok { IfOk result
-            (λ outcome. (step_reply outcome, groups.new, self.new.accesses)
-            ≡ advanced groups.old self.old.accesses number) }
+        requires { All (λ listener. listener.next_entry ≤ 2 ^ 31) groups.old }
+        ensures stepped { IfOk result (λ found. IfSome found (λ outcome.
+            (accesses : List (ℕ × AccessState)) → AllZip IsOpen self.old.entries accesses
+            → HasStepped number outcome groups.old groups.new self.new.entries accesses)) }
+        ensures none { IfOk result (λ found. IfNone found
+            (lookup (is_at (nat_cmp number)) self.old.entries ≡ None)) }
+        ensures none_same { IfOk result (λ found. IfNone found (self.new.entries ≡ self.old.entries)) }
+        ensures none_groups { IfOk result (λ found. IfNone found (groups.new ≡ groups.old)) }
+        ensures calls { IsCalledOnce groups.old groups.new }
         ensures last { self.new.last ≡ self.old.last }
+        ensures err { OnErr result (self.new.entries ≡ self.old.entries) }
         ensures groups { OnErr result (groups.new ≡ groups.old) }
-        ensures err { OnErr result (self.new ≡ self.old) }
     {
-        let Some(access) = self.by_number.get_mut(&number) else {
+        let Some(mut stepping) = self.take(number) else {
             return Ok(None);
         };
-        let outcome = step(groups, access)?;
-        if is_finished(outcome) {
-            self.remove(number);
+        let stepped = stepping.marks.step(&mut stepping.access, groups);
+        self.exchange(number, stepping);
+        let outcome = stepped?;
+        if outcome.ends_access() {
+            self.end(number);
         }
         Ok(Some(outcome))
     }
-}
 
-// Puts an access at its number.
-fn put(by_number: &mut BTreeMap<u32, Access>, access: Access) -> Result<(), NoMemory>
-    ensures ok { OnOk result (by_number.new.entries
-        ≡ insert_entry nat_cmp by_number.old.entries access.number access) }
-    ensures err { OnErr result (by_number.new.entries ≡ by_number.old.entries) }
-{
-    by_number.insert(access.number(), access)?;
-    Ok(())
-}
+    // Takes an access out for its step. One without marks stays in its place.
+    fn take(&mut self, number: u32) -> Option<OpenAccess>
+        ensures found { result ≡ lookup (is_at (nat_cmp number)) self.old.entries }
+        ensures entries { IfSome result (λ taken. self.new.entries ≡ set_value (is_at (nat_cmp number))
+            self.old.entries (record taken { marks = [] })) }
+        ensures none { IfNone result (self.new.entries ≡ self.old.entries) }
+        ensures last { self.new.last ≡ self.old.last }
+    {
+        let access = self.by_number.get(&number)?.access;
+        let marks = NearMarks::new(self.alloc);
+        self.exchange(number, OpenAccess { access, marks })
+    }
 
-// Whether an access is finished after this outcome.
-fn is_finished(outcome: StepOutcome) -> bool
-    ensures { (access : AccessState) → kept_access outcome access
-        ≡ (if result then None else Some access) }
-{
-    match outcome {
-        StepOutcome::Denied(_) | StepOutcome::Done => true,
-        _ => false,
+    // Puts another access of the same place in the place of one, and gives that one.
+    fn exchange(&mut self, number: u32, other: OpenAccess) -> Option<OpenAccess>
+        requires { IfSome (lookup (is_at (nat_cmp number)) self.old.entries)
+            (λ held. held.access.place ≡ other.access.place) }
+        ensures old { result ≡ lookup (is_at (nat_cmp number)) self.old.entries }
+        ensures entries { self.new.entries
+            ≡ set_value (is_at (nat_cmp number)) self.old.entries other }
+        ensures last { self.new.last ≡ self.old.last }
+    {
+        self.by_number.replace(&number, other)
+    }
+
+    // Takes away an access that is finished.
+    fn end(&mut self, number: u32)
+        ensures entries { self.new.entries
+            ≡ remove_entry (is_at (nat_cmp number)) self.old.entries }
+        ensures last { self.new.last ≡ self.old.last }
+    {
+        if let Some(ended) = self.by_number.remove(&number) {
+            take_one(&mut self.through, ended.access.place().mount);
+        }
     }
 }

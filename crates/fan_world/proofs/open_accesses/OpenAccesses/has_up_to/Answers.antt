@@ -1,8 +1,11 @@
-use Rattle.fan_world.proofs.Filed.{first_decides}
+use Rattle.std.proofs.Common.{◌∙◌, ap, sym}
+use Rattle.fan_world.specs.Opened.{OpenState}
+use Rattle.fan_world.specs.Retired.{has_up_to}
+use Rattle.fan_world.proofs.OpenLemmas.{least_up_to}
 use Rattle.fan_world.proofs.open_accesses.OpenAccesses.has_up_to.Goals as goal
 
 pub returns-in-Some : goal.returns-in-Some
 returns-in-Some c =
-    rw (← c.self.view_is)
-    (first_decides c.self.inside.last c.args.last (c.in-Some.number.now, c.in-Some.field-0-1.now)
-    c.self.inside.by_number.entries c.in-Some.ensures.first c.self.invariant.each c.in-Some.ensures.all_from)
+    let entries = c.self.inside.by_number.entries in
+    sym (least_up_to c.args.number entries _ _ (sym c.iter.ensures.rest ∙ c.in-Some.ensures.steps) c.iter.ensures.sorted)
+    ∙ ap (λ (state : OpenState). has_up_to state.entries c.args.number) c.self.view_is

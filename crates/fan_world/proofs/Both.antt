@@ -1,0 +1,245 @@
+-- Open accesses bs they are kept, beside those that they stand for.
+use Rattle.std.proofs.Common.{◌≡◌, ◌∙◌, ℕ, Bool, true, false, cond, List, [], ◌∷◌, Some, None, refl, sym, ap, subst, arith}
+use Rattle.std.specs.Prelude.{IfSome, filter, slice_get}
+use Rattle.std.specs.BTreeMap.{insert_entry, is_at}
+use Rattle.std.specs.List.{AllZip}
+use Rattle.std.specs.Map.{lookup, remove_entry, set_value}
+use Rattle.std.specs.Ordering.{nat_cmp}
+use Rattle.std.specs.declared.cmp.Ordering.{Ordering}
+use Rattle.std.specs.declared.cmp.Ordering.TheVariants.{Less, Equal, Greater}
+use Rattle.std.proofs.lemmas.Map.Steps.{set_value_same}
+use Rattle.fan_access.specs.Access.{AccessState, Phase, Asking, Waiting, Telling, access_step, asks, asks_next, step_at, tells, tells_next}
+use Rattle.fan_access.specs.Kept.{IsAccess, IsStepped, KeptAccess}
+use Rattle.fan_bits.specs.declared.mark.Mark.{Mark}
+use Rattle.fan_bits.specs.declared.outcome.StepOutcome.{StepOutcome}
+use Rattle.fan_bits.specs.Interest.{near}
+use Rattle.fan_bits.specs.Outcomes.{ends_access}
+use Rattle.fan_listener.specs.ListenerState.{ListenerState}
+use Rattle.fan_world.specs.declared.open_accesses.OpenAccess.{OpenAccess}
+use Rattle.fan_world.specs.Machine.{IsOpen}
+use Rattle.fan_world.specs.Opened.{HasStepped}
+
+-- ---- a step keeps the place of an access and its view
+
+record KeepsView (access next : AccessState) : Type 0 where
+  place : next.place ≡ access.place
+  view : next.view ≡ access.view
+
+tells_keep : (at : ℕ) (groups : List ListenerState) (access : AccessState)
+    → KeepsView access (tells_next (slice_get (tells access) at) at groups access).access
+tells_keep at groups access =
+    elim (slice_get (tells access) at) as (λ turn. KeepsView access (tells_next turn at groups access).access) [
+      | None ↦ record { place = refl; view = refl }
+      | Some turn ↦ record { place = refl; view = refl }
+    ]
+
+asks_keep : (at : ℕ) (groups : List ListenerState) (access : AccessState)
+    → KeepsView access (asks_next (slice_get (asks access) at) at groups access).access
+asks_keep at groups access =
+    elim (slice_get (asks access) at) as (λ turn. KeepsView access (asks_next turn at groups access).access) [
+      | None ↦ tells_keep 0 groups access
+      | Some turn ↦ record { place = refl; view = refl }
+    ]
+
+at_keeps : (phase : Phase) (groups : List ListenerState) (access : AccessState)
+    → KeepsView access (step_at phase groups access).access
+at_keeps (Asking at) groups access = asks_keep at groups access
+at_keeps (Waiting at group entry) groups access = record { place = refl; view = refl }
+at_keeps (Telling at) groups access = tells_keep at groups access
+
+step_keeps : (groups : List ListenerState) (access : AccessState) → KeepsView access (access_step groups access).access
+unfolding access_step
+step_keeps groups access = at_keeps access.phase groups access
+
+-- ---- the same place of both lists
+
+-- an access stands for what is kept of it
+pub record StandsFor (kept : OpenAccess) (access : AccessState) : Type 0 where
+  pub near_is : kept.marks ≡ filter (near access.place) access.view
+  pub goes_on : IsAccess kept.marks kept.access access
+
+module _ (test : ℕ → Bool) where
+  -- what is not found among those that are kept is not found
+  pub none_both : (es : List (ℕ × OpenAccess)) (accesses : List (ℕ × AccessState)) → AllZip IsOpen es accesses
+      → lookup test es ≡ None → lookup test accesses ≡ None
+  none_both [] [] zipped none = refl
+  none_both [] (a ∷ bs) zipped none = absurd zipped
+  none_both (e ∷ es) [] zipped none = absurd zipped
+  none_both (e ∷ es) (a ∷ bs) zipped none =
+      by (test e.0) refl (sym (ap test zipped.0.number)) none (none_both es bs zipped.1)
+    where
+      by : (b : Bool) → test e.0 ≡ b → test a.0 ≡ test e.0 → lookup test (e ∷ es) ≡ None
+          → (lookup test es ≡ None → lookup test bs ≡ None) → lookup test (a ∷ bs) ≡ None
+      by true i same none ih = absurd (grind (arith, i, none))
+      by false i same none ih =
+          let rest : lookup test es ≡ None = grind (arith, i, none) in
+          grind (arith, i, same, ih rest)
+
+  -- and what is found stands for an access that is found
+  pub found_both : (es : List (ℕ × OpenAccess)) (accesses : List (ℕ × AccessState)) → AllZip IsOpen es accesses
+      → (kept : OpenAccess) → lookup test es ≡ Some kept
+      → (access : AccessState) × (lookup test accesses ≡ Some access) × StandsFor kept access
+  found_both [] accesses zipped kept found = absurd cc
+  found_both (e ∷ es) [] zipped kept found = absurd zipped
+  found_both (e ∷ es) (a ∷ bs) zipped kept found =
+      by (test e.0) refl (sym (ap test zipped.0.number)) found (found_both es bs zipped.1 kept)
+    where
+      by : (b : Bool) → test e.0 ≡ b → test a.0 ≡ test e.0 → lookup test (e ∷ es) ≡ Some kept
+          → (lookup test es ≡ Some kept
+          → (access : AccessState) × (lookup test bs ≡ Some access) × StandsFor kept access)
+          → (access : AccessState) × (lookup test (a ∷ bs) ≡ Some access) × StandsFor kept access
+      by true i same found ih =
+          let is : e.1 ≡ kept = grind (arith, i, found) in (
+            a.1,
+            grind (arith, i, same),
+            subst (λ (kept : OpenAccess). StandsFor kept a.1) is
+                (record { near_is = zipped.0.near; goes_on = zipped.0.goes_on }),
+          )
+      by false i same found ih =
+          let rest : lookup test es ≡ Some kept = grind (arith, i, found) in
+          let more = ih rest in (more.0, grind (arith, i, same, more.1), more.2)
+
+  -- another access takes its place in both
+  pub set_both : (es : List (ℕ × OpenAccess)) (accesses : List (ℕ × AccessState)) → AllZip IsOpen es accesses
+      → (kept : OpenAccess) (access : AccessState) → StandsFor kept access
+      → AllZip IsOpen (set_value test es kept) (set_value test accesses access)
+  set_both [] [] zipped kept access stands = tt
+  set_both [] (a ∷ bs) zipped kept access stands = absurd zipped
+  set_both (e ∷ es) [] zipped kept access stands = absurd zipped
+  set_both (e ∷ es) (a ∷ bs) zipped kept access stands =
+      by (test e.0) refl (sym (ap test zipped.0.number)) (set_both es bs zipped.1 kept access stands)
+    where
+      by : (b : Bool) → test e.0 ≡ b → test a.0 ≡ test e.0
+          → AllZip IsOpen (set_value test es kept) (set_value test bs access)
+          → AllZip IsOpen (set_value test (e ∷ es) kept) (set_value test (a ∷ bs) access)
+      by true i same ih =
+          rw (same, i) (record { number = zipped.0.number; near = stands.near_is; goes_on = stands.goes_on }, zipped.1)
+      by false i same ih = rw (same, i) (zipped.0, ih)
+
+  -- or goes from both
+  pub removed_both : (es : List (ℕ × OpenAccess)) (accesses : List (ℕ × AccessState)) → AllZip IsOpen es accesses
+      → AllZip IsOpen (remove_entry test es) (remove_entry test accesses)
+  removed_both [] [] zipped = tt
+  removed_both [] (a ∷ bs) zipped = absurd zipped
+  removed_both (e ∷ es) [] zipped = absurd zipped
+  removed_both (e ∷ es) (a ∷ bs) zipped =
+      by (test e.0) refl (sym (ap test zipped.0.number)) (removed_both es bs zipped.1)
+    where
+      by : (b : Bool) → test e.0 ≡ b → test a.0 ≡ test e.0
+          → AllZip IsOpen (remove_entry test es) (remove_entry test bs)
+          → AllZip IsOpen (remove_entry test (e ∷ es)) (remove_entry test (a ∷ bs))
+      by true i same ih = rw (same, i) zipped.1
+      by false i same ih = rw (same, i) (zipped.0, ih)
+
+-- an access that begins comes to its place in both
+pub insert_both : (es : List (ℕ × OpenAccess)) (accesses : List (ℕ × AccessState)) → AllZip IsOpen es accesses
+    → (number : ℕ) (kept : OpenAccess) (access : AccessState) → IsOpen (number, kept) (number, access)
+    → AllZip IsOpen (insert_entry nat_cmp es number kept) (insert_entry nat_cmp accesses number access)
+insert_both [] [] zipped number kept access is = (is, tt)
+insert_both [] (a ∷ bs) zipped number kept access is = absurd zipped
+insert_both (e ∷ es) [] zipped number kept access is = absurd zipped
+insert_both (e ∷ es) (a ∷ bs) zipped number kept access is =
+    by (nat_cmp number e.0) refl (sym (ap (nat_cmp number) zipped.0.number))
+    (insert_both es bs zipped.1 number kept access is)
+  where
+    by : (r : Ordering) → nat_cmp number e.0 ≡ r → nat_cmp number a.0 ≡ nat_cmp number e.0
+        → AllZip IsOpen (insert_entry nat_cmp es number kept) (insert_entry nat_cmp bs number access)
+        → AllZip IsOpen (insert_entry nat_cmp (e ∷ es) number kept) (insert_entry nat_cmp (a ∷ bs) number access)
+    by Less i same ih = rw (same, i) (is, zipped)
+    by Equal i same ih =
+        rw (same, i) (record { number = zipped.0.number; near = is.near; goes_on = is.goes_on }, zipped.1)
+    by Greater i same ih = rw (same, i) (zipped.0, ih)
+
+-- ---- a single step
+
+-- what is left of those that are kept after a step
+abbrev pub kept_after : ℕ → StepOutcome → OpenAccess → List (ℕ × OpenAccess) → List (ℕ × OpenAccess)
+kept_after number outcome next es =
+    cond (ends_access outcome) (remove_entry (is_at (nat_cmp number)) es) (set_value (is_at (nat_cmp number)) es next)
+
+-- the same choice in both lists
+both_after : (b other : Bool) (set removed : List (ℕ × OpenAccess)) (all gone : List (ℕ × AccessState)) → other ≡ b
+    → AllZip IsOpen set all → AllZip IsOpen removed gone → AllZip IsOpen (cond b removed set) (cond other gone all)
+both_after true other set removed all gone same kept ended = rw same ended
+both_after false other set removed all gone same kept ended = rw same kept
+
+-- the access that is found does the step that what is kept of it does
+pub stepped_both : (number : ℕ) (outcome : StepOutcome) (groups new_groups : List ListenerState)
+    (es new : List (ℕ × OpenAccess)) (kept : OpenAccess) (next : KeptAccess)
+    → lookup (is_at (nat_cmp number)) es ≡ Some kept
+    → ((access : AccessState) → IsAccess kept.marks kept.access access
+    → IsStepped kept.marks outcome new_groups next (access_step groups access))
+    → new ≡ kept_after number outcome (record { access = next; marks = kept.marks }) es
+    → (accesses : List (ℕ × AccessState)) → AllZip IsOpen es accesses
+    → HasStepped number outcome groups new_groups new accesses
+stepped_both number outcome groups new_groups es new kept next found step is accesses zipped =
+    let test = is_at (nat_cmp number) in
+    let there = found_both test es accesses zipped kept found in
+    let access = there.0 in
+    let stepped = access_step groups access in
+    let did = step access there.2.goes_on in
+    let keeps = step_keeps groups access in
+    let stands : StandsFor (record { access = next; marks = kept.marks }) stepped.access = record {
+      near_is = rw (keeps.place, keeps.view) there.2.near_is;
+      goes_on = did.goes_on;
+    } in record {
+      access = access;
+      found = there.1;
+      answers = did.answers;
+      listeners = did.listeners;
+      kept = rw is
+          (both_after (ends_access outcome) (ends_access stepped.outcome) _ _ _ _ (ap ends_access (sym did.answers))
+          (set_both test es accesses zipped _ stepped.access stands) (removed_both test es accesses zipped));
+    }
+
+-- ---- exchanged and put back
+
+-- what was put at a place is found there
+pub set_found : (test : ℕ → Bool) (es : List (ℕ × OpenAccess)) (kept : OpenAccess) (P : OpenAccess → Type 0) → P kept
+    → IfSome (lookup test (set_value test es kept)) P
+set_found test [] kept P holds = tt
+set_found test (e ∷ es) kept P holds = by (test e.0) refl (set_found test es kept P holds)
+  where
+    by : (b : Bool) → test e.0 ≡ b → IfSome (lookup test (set_value test es kept)) P
+        → IfSome (lookup test (set_value test (e ∷ es) kept)) P
+    by true i ih = rw i (rw i holds)
+    by false i ih = rw i (rw i ih)
+
+-- the last value that was put at a place stays there
+pub set_twice : (test : ℕ → Bool) (es : List (ℕ × OpenAccess)) (first kept : OpenAccess)
+    → set_value test (set_value test es first) kept ≡ set_value test es kept
+set_twice test [] first kept = refl
+set_twice test (e ∷ es) first kept = by (test e.0) refl (set_twice test es first kept)
+  where
+    by : (b : Bool) → test e.0 ≡ b → set_value test (set_value test es first) kept ≡ set_value test es kept
+        → set_value test (set_value test (e ∷ es) first) kept ≡ set_value test (e ∷ es) kept
+    by true i ih = grind (arith, i)
+    by false i ih = grind (arith, i, ih)
+
+-- and goes from there bs another would
+pub set_removed : (test : ℕ → Bool) (es : List (ℕ × OpenAccess)) (kept : OpenAccess)
+    → remove_entry test (set_value test es kept) ≡ remove_entry test es
+set_removed test [] kept = refl
+set_removed test (e ∷ es) kept = by (test e.0) refl (set_removed test es kept)
+  where
+    by : (b : Bool) → test e.0 ≡ b → remove_entry test (set_value test es kept) ≡ remove_entry test es
+        → remove_entry test (set_value test (e ∷ es) kept) ≡ remove_entry test (e ∷ es)
+    by true i ih = grind (arith, i)
+    by false i ih = grind (arith, i, ih)
+
+-- an access was taken out for its step, another stood in its place, and then it was put back
+module _ (test : ℕ → Bool) (es taken new : List (ℕ × OpenAccess)) (kept other : OpenAccess) (access : KeptAccess)
+    (marks : List Mark) (took : taken ≡ set_value test es other) (same : marks ≡ kept.marks)
+    (put : new ≡ set_value test taken (record { access = access; marks = marks })) where
+  -- where it stands now is all that changed
+  pub put_back : new ≡ set_value test es (record { access = access; marks = kept.marks })
+  put_back =
+      put ∙ ap (λ (taken : List (ℕ × OpenAccess)). set_value test taken (record { access = access; marks = marks })) took
+      ∙ set_twice test es other (record { access = access; marks = marks })
+      ∙ ap (λ (marks : List Mark). set_value test es (record { access = access; marks = marks })) same
+
+  -- and if it stands where it stood, nothing changed
+  pub put_back_same : lookup test es ≡ Some kept → access ≡ kept.access → new ≡ es
+  put_back_same found stays =
+      put_back ∙ ap (λ (access : KeptAccess). set_value test es (record { access = access; marks = kept.marks })) stays
+      ∙ set_value_same test es kept found

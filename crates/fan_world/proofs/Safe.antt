@@ -1,0 +1,103 @@
+-- A step adds a listener, an entry of one, or fewer than 2^32 retired marks.
+use Rattle.std.proofs.Common.{◌≡◌, ℕ, zero, suc, ◌+◌, ◌-◌, ◌<◌, ◌≤◌, ◌^◌, List, Option, Some, None, length, refl, arith, inl, inr}
+use Rattle.std.specs.Prelude.{All}
+use Rattle.fan_bits.specs.declared.change.Change.{Change}
+use Rattle.fan_bits.specs.declared.mark.Mark.{Mark}
+use Rattle.fan_groups.specs.Bounds.{AreBounded}
+use Rattle.fan_groups.proofs.Bounded.{bounded_call, bounded_later, makes_less}
+use Rattle.fan_listener.specs.declared.answers.Answer.TheVariants as answers
+use Rattle.fan_listener.specs.declared.event.Event.{Event}
+use Rattle.fan_listener.specs.declared.queue.Put.TheVariants as puts
+use Rattle.fan_listener.proofs.Bounds.{makes-answer_of, makes-put}
+use Rattle.fan_listener.specs.Bounds.{Makes}
+use Rattle.fan_listener.specs.Groups.{IsCalledOnce, answer_from, called_at, listener_at, put_to, with_listener}
+use Rattle.fan_listener.specs.ListenerState.{ListenerState}
+use Rattle.fan_listener.specs.Queue.{put}
+use Rattle.fan_listener.specs.Responses.{answer_of}
+use Rattle.fan_world.specs.Bounds.{AreClassed, IsClassedIf, IsSafe, KeepsFlags}
+use Rattle.fan_world.specs.Machine.{Parts}
+use Rattle.fan_world.specs.Marks.{changed_if, retired_if}
+use Rattle.fan_world.proofs.Classed.{classed_changed}
+use Rattle.fan_world.proofs.Flags.{classed_kept}
+
+bounded_called : (calls : ℕ) (groups : List ListenerState) (group : ℕ) (old new : ListenerState)
+    → AreBounded calls groups → listener_at groups group ≡ Some old → Makes 1 old new
+    → AreBounded (calls + 1) (with_listener groups group new)
+bounded_called calls groups zero old new bounded here makes = absurd cc
+bounded_called calls groups (suc index) old new bounded here makes =
+    let less : suc index - 1 ≡ index = omega arith in
+    rw less (bounded_call calls index groups old new bounded here makes)
+
+bounded_put : (calls : ℕ) (groups : List ListenerState) (group : ℕ) (event : ℕ → Event)
+    → AreBounded calls groups
+    → AreBounded (calls + 1) (put_to groups group event).1
+unfolding put_to
+bounded_put calls groups group event bounded = by (listener_at groups group) refl
+  where
+    by : (found : Option ListenerState) → listener_at groups group ≡ found
+        → AreBounded (calls + 1)
+        (called_at puts.Closed (λ listener. put listener (event listener.flags)) groups group found).1
+    by None here = bounded_later calls groups bounded
+    by (Some old) here =
+        bounded_called calls groups group old (put old (event old.flags)).1 bounded here
+        (makes-put old (event old.flags))
+
+bounded_answer : (calls : ℕ) (groups : List ListenerState) (group entry : ℕ) → AreBounded calls groups
+    → AreBounded (calls + 1) (answer_from groups group entry).1
+unfolding answer_from
+bounded_answer calls groups group entry bounded = by (listener_at groups group) refl
+  where
+    by : (found : Option ListenerState) → listener_at groups group ≡ found
+        → AreBounded (calls + 1)
+        (called_at answers.Closed (λ listener. answer_of listener entry) groups group found).1
+    by None here = bounded_later calls groups bounded
+    by (Some old) here =
+        bounded_called calls groups group old (answer_of old entry).1 bounded here
+        (makes_less old (answer_of old entry).1 (makes-answer_of old entry))
+
+-- a call of one listener
+pub bounded_once : (calls : ℕ) (old new : List ListenerState) → AreBounded calls old → IsCalledOnce old new
+    → AreBounded (calls + 1) new
+bounded_once calls old new bounded (inl same) = rw same (bounded_later calls old bounded)
+bounded_once calls old new bounded (inr (inl call)) = rw call.2 (bounded_put calls old call.0 call.1 bounded)
+bounded_once calls old new bounded (inr (inr call)) =
+    rw call.2 (bounded_answer calls old call.0 call.1 bounded)
+
+-- the entries of bounded listeners have room
+pub few_entries : (calls : ℕ) (groups : List ListenerState) → calls < 2 ^ 30 → AreBounded calls groups
+    → All (λ listener. listener.next_entry ≤ 2 ^ 31) groups
+few_entries calls groups few bounded =
+    λ index other within. omega (arith, (bounded.each index other within).entries)
+
+classed_changed_if : (groups : List ListenerState) (marks : List Mark) (change : Option Change)
+    → IsClassedIf groups change → AreClassed groups marks → AreClassed groups (changed_if change marks)
+classed_changed_if groups marks None has classed = classed
+classed_changed_if groups marks (Some change) has classed = classed_changed groups marks change has classed
+
+-- parts as they are in a method, of which what is known is known at its entry
+module _ (calls : ℕ) (old entry new : Parts) (is : old ≡ entry) (safe : IsSafe calls entry)
+    (bounded : AreBounded calls old.groups → AreBounded (calls + 1) new.groups)
+    (keeps : KeepsFlags old.groups new.groups) (batch : new.batch ≡ old.batch) where
+  old_safe : IsSafe calls old
+  old_safe = rw is safe
+
+  -- groups changed, and no marks
+  pub safe_groups : new.marks ≡ old.marks → new.waiting ≡ old.waiting → IsSafe (calls + 1) new
+  safe_groups marks waiting = record {
+    bounded = bounded old_safe.bounded;
+    classed = rw marks (classed_kept old.groups new.groups old.marks keeps old_safe.classed);
+    counted = rw (waiting, batch) (let counted = old_safe.counted in omega (arith, counted));
+  }
+
+  -- marks changed, if there is a change
+  pub safe_marks : (change : Option Change) → IsClassedIf entry.groups change
+      → new.marks ≡ changed_if change old.marks
+      → new.waiting ≡ old.waiting + length (retired_if change old.marks)
+      → length (retired_if change old.marks) < 2 ^ 32 → IsSafe (calls + 1) new
+  safe_marks change has marks waiting few =
+      let old_has : IsClassedIf old.groups change = rw is has in record {
+        bounded = bounded old_safe.bounded;
+        classed = rw marks (classed_kept old.groups new.groups (changed_if change old.marks) keeps
+            (classed_changed_if old.groups old.marks change old_has old_safe.classed));
+        counted = rw (waiting, batch) (let counted = old_safe.counted in omega (arith, counted, few));
+      }

@@ -1,0 +1,92 @@
+// Steps of groups and their listeners: fanotify_init(2), read(2), write(2), close(2).
+ghost use Rattle.std.specs.Prelude.{◌≡◌, ◌+◌, ◌<◌, ◌^◌, ◌&&◌, not, IfOk, OnErr};
+ghost use Rattle.fan_bits.specs.Words.{has_handles, is_init_flags};
+ghost use Rattle.fan_machine.specs.Groups.{group_closed, group_made, group_read, group_written};
+ghost use Rattle.fan_machine.specs.World.{WorldState};
+ghost use Rattle.fan_world.specs.Bounds.{IsSafe};
+ghost use Rattle.fan_world.specs.Done.{IsDone};
+ghost use Rattle.fan_world.specs.Machine.{IsMachine};
+
+use super::machine::Machine;
+use super::mark_steps::change_marks;
+use super::refused::Refused;
+use fan_bits::{Change, Errno, init_words};
+use fan_io::Items;
+use fan_script::Reply;
+
+// How many groups may be open.
+const MAX_OPEN_GROUPS: usize = 128;
+
+// How many entries the queue of a group has at most.
+const QUEUE_LIMIT: u32 = 16_384;
+
+impl Machine {
+    /// `init`: EINVAL, also for flags that ask for handles, which aren't built yet; EMFILE.
+    #[tactic(auto, unfolding(fan_machine::specs::Groups::group_made))]
+    pub(crate) fn init(&mut self, flags: u32) -> Result<Reply, Refused>
+        requires few { self.old.steps < 2 ^ 30 }
+        requires safe { IsSafe self.old.steps self.old }
+        ensures done { (world : WorldState) → IsMachine self.old world
+            → IsDone self.new result (group_made world flags) }
+        ensures safe { IsSafe (self.old.steps + 1) self.new }
+        ensures steps { self.new.steps ≡ self.old.steps }
+        ensures err { OnErr result (self.new ≡ self.old) }
+    {
+        let init = init_words(flags)?;
+        if init.has_handles() {
+            return Err(Refused::No(Errno::Einval));
+        }
+        if self.groups.open_count() >= MAX_OPEN_GROUPS {
+            return Err(Refused::No(Errno::Emfile));
+        }
+        Ok(Reply::Group(self.groups.make(init, QUEUE_LIMIT)?))
+    }
+
+    /// `read`: EBADF, EAGAIN, EINVAL.
+    #[tactic(auto, unfolding(fan_machine::specs::Groups::group_read))]
+    pub(crate) fn read(&mut self, group: u32, size: u32) -> Result<Reply, Refused>
+        requires few { self.old.steps < 2 ^ 30 }
+        requires safe { IsSafe self.old.steps self.old }
+        ensures done { (world : WorldState) → IsMachine self.old world
+            → IsDone self.new result (group_read world group size) }
+        ensures safe { IsSafe (self.old.steps + 1) self.new }
+        ensures steps { self.new.steps ≡ self.old.steps }
+        ensures err { OnErr result (self.new ≡ self.old) }
+    {
+        let bytes = self.groups.read(group, size)?;
+        Ok(Reply::Bytes(Items::from_vec(bytes)))
+    }
+
+    /// `write`: EBADF, EINVAL, ENOENT.
+    #[tactic(auto, unfolding(fan_machine::specs::Groups::group_written))]
+    pub(crate) fn write(&mut self, group: u32, bytes: &[u8]) -> Result<Reply, Refused>
+        requires safe { IsSafe self.old.steps self.old }
+        ensures done { (world : WorldState) → IsMachine self.old world
+            → IsDone self.new result (group_written world group bytes.now) }
+        ensures safe { IsSafe (self.old.steps + 1) self.new }
+        ensures steps { self.new.steps ≡ self.old.steps }
+        ensures err { OnErr result (self.new ≡ self.old) }
+    {
+        self.groups.write(group, bytes)?;
+        Ok(Reply::Done)
+    }
+
+    /// `close`: EBADF. The queue of the group is freed, and its marks go.
+    #[tactic(auto, unfolding(fan_machine::specs::Groups::group_closed))]
+    pub(crate) fn close(&mut self, group: u32) -> Result<Reply, Refused>
+        requires few { self.old.steps < 2 ^ 30 }
+        requires safe { IsSafe self.old.steps self.old }
+        ensures done { (world : WorldState) → IsMachine self.old world
+            → IsDone self.new result (group_closed world group) }
+        ensures safe { IsSafe (self.old.steps + 1) self.new }
+        ensures steps { self.new.steps ≡ self.old.steps }
+        ensures err { OnErr result (self.new ≡ self.old) }
+    {
+        if !self.groups.close(group) {
+            return Err(Refused::No(Errno::Ebadf));
+        }
+        let change = Change::DropGroup { group };
+        change_marks(&mut self.marks, &mut self.retirement, &change);
+        Ok(Reply::Done)
+    }
+}
