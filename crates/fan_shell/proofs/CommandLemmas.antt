@@ -5,7 +5,9 @@ use Rattle.std.specs.Str.{bytes_eq}
 use Rattle.std.proofs.lemmas.Slice.Eq.{bytes_eq-Decides}
 
 -- a lone word is compared by its bytes
-pub one_word : {A : Type 0} (f : A → List ℕ) (words : List A) (word : A) (text : List ℕ) (same : Bool) → length words ≡ 1 → word ≡ get_or words 0 word → same ≡ bytes_eq (f word) text → (IsTrue same → map f words ≡ text ∷ []) × (map f words ≡ text ∷ [] → IsTrue same)
+pub one_word : {A : Type 0} (f : A → List ℕ) (words : List A) (word : A) (text : List ℕ) (same : Bool)
+    → length words ≡ 1 → word ≡ get_or words 0 word → same ≡ bytes_eq (f word) text
+    → (IsTrue same → map f words ≡ text ∷ []) × (map f words ≡ text ∷ [] → IsTrue same)
 one_word f [] word text same one is eq = absurd (omega arith)
 one_word f (first ∷ []) word text same one is eq =
     let compares = bytes_eq-Decides (f first) text in

@@ -3,33 +3,36 @@ use Rattle.std.proofs.Common.{◌≡◌, ℕ, ◌+◌, ◌≤◌, List, [], ◌�
 use Rattle.std.specs.Prelude.{IfSome}
 use Rattle.std.specs.Io.KnownBytes.{Appends}
 use Rattle.fan_io.specs.Bytes.{GaveMore}
-use Rattle.fan_world.specs.World.{WorldState, opening_world}
+use Rattle.fan_machine.specs.World.{WorldState, initial_world}
 use Rattle.fan_script.specs.declared.line.Line.{Line}
 use Rattle.fan_shell.specs.declared.status.Status.{Status}
 use Rattle.fan_shell.specs.declared.status.Status.TheVariants as statuses
 use Rattle.fan_shell.specs.Outcome.{Completes}
 use Rattle.fan_shell.specs.Playing.{play}
-use Rattle.fan_shell.specs.Script.{AllTaken, AreLines, IsValid, printed, answered, lines_of}
+use Rattle.fan_shell.specs.Script.{Printed, AllTaken, AreLines, IsValid, printed, answered, lines_of}
 use Rattle.fan_shell.specs.Status.{IsTold, IsToldOrCut}
 use Rattle.fan_shell.proofs.TranscriptLemmas.{transcript_of, tells_played}
 
 -- good lines end with status 0
-all_good : (pieces : List (List ℕ)) (lines : List (Option Line)) (world : WorldState) (number : ℕ) → AllTaken pieces lines → AreLines pieces → (printed world number lines).1 ≡ statuses.Ok
+all_good : (pieces : List (List ℕ)) (lines : List (Option Line)) (world : WorldState) (number : ℕ)
+    → AllTaken pieces lines → AreLines pieces → (printed world number lines).status ≡ statuses.Ok
 all_good [] [] world number taken good = refl
 all_good [] (line ∷ lines) world number taken good = absurd taken
 all_good (bytes ∷ more) [] world number taken good = absurd taken
 all_good (bytes ∷ more) (None ∷ lines) world number taken good = absurd (taken.0 good.0.0 good.0.1)
 all_good (bytes ∷ more) (Some line ∷ lines) world number taken good =
-    all_good more lines (answered world line).1 (number + 1) taken.1 good.1
+    all_good more lines (answered world line).world (number + 1) taken.1 good.1
 
 -- playing a script of good lines ends with status 0
-pub plays_well : (script : List ℕ) → IsValid script → (play script).1 ≡ statuses.Ok
+pub plays_well : (script : List ℕ) → IsValid script → (play script).status ≡ statuses.Ok
 plays_well script valid =
     let transcript = transcript_of script in
-    ap (λ (r : List ℕ × Status). r.1) (sym transcript.said) ∙ all_good (lines_of script) transcript.lines opening_world 1 transcript.taken valid
+    ap (λ (r : Printed). r.status) (sym transcript.said)
+    ∙ all_good (lines_of script) transcript.lines initial_world 1 transcript.taken valid
 
 -- a source that had no more bytes than the limit gave no more
-pub within_limit : (old new : Option (List ℕ)) (limit : ℕ) → GaveMore old new limit → IfSome old (λ bytes. length bytes ≤ limit → ⊥)
+pub within_limit : (old new : Option (List ℕ)) (limit : ℕ) → GaveMore old new limit
+    → IfSome old (λ bytes. length bytes ≤ limit → ⊥)
 within_limit None new limit gave = tt
 within_limit (Some bytes) None limit gave = absurd gave.consumed
 within_limit (Some bytes) (Some left) limit gave = λ most.
@@ -37,16 +40,13 @@ within_limit (Some bytes) (Some left) limit gave = λ most.
     omega (arith, gave.more, ap length whole, length-append gave.given left)
 
 -- a script of good lines is answered whole where the sink doesn't fail, or memory runs out
-pub completes : (status : Status) (old new : Option (List ℕ)) (script : List ℕ) → IsToldOrCut status → (status ≡ statuses.WriteFault → ⊥) → (IsTold status → Appends old new (play script).0) → (IsTold status → (play script).1 ≡ status) → IsValid script → Completes old new script status
+pub completes : (status : Status) (old new : Option (List ℕ)) (script : List ℕ) → IsToldOrCut status
+    → (status ≡ statuses.WriteFault → ⊥) → (IsTold status → Appends old new (play script).text)
+    → (IsTold status → (play script).status ≡ status) → IsValid script → Completes old new script status
 completes statuses.Ok old new script ends no_fault put is valid =
     inl (refl, tells_played old new script statuses.Ok (put tt) (is tt))
 completes statuses.BadLine old new script ends no_fault put is valid =
     let bad = is tt in let good = plays_well script valid in absurd cc
-completes statuses.Usage old new script ends no_fault put is valid = absurd ends
-completes statuses.ReadFault old new script ends no_fault put is valid = absurd ends
 completes statuses.WriteFault old new script ends no_fault put is valid = absurd (no_fault refl)
-completes statuses.TooLong old new script ends no_fault put is valid = absurd ends
 completes statuses.NoMemory old new script ends no_fault put is valid = inr refl
-completes statuses.NotLegal old new script ends no_fault put is valid = absurd ends
-completes statuses.NoThread old new script ends no_fault put is valid = absurd ends
-completes statuses.BadRecord old new script ends no_fault put is valid = absurd ends
+completes _ old new script ends no_fault put is valid = absurd ends

@@ -1,7 +1,8 @@
-pub mod RunLemmas
-pub mod PlayLemmas
-pub mod SplitLemmas
-pub mod TakenLemmas
-pub mod TranscriptLemmas
 pub mod CommandLemmas
 pub mod CompleteLemmas
+pub mod PlayLemmas
+pub mod RunLemmas
+pub mod SplitLemmas
+pub mod StepLemmas
+pub mod TakenLemmas
+pub mod TranscriptLemmas

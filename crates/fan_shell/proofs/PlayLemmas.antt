@@ -1,69 +1,121 @@
 -- Playing a script line by line, and what its transcript is.
-use Rattle.std.proofs.Common.{◌≡◌, ℕ, ◌+◌, List, [], ◌∷◌, ◌++◌, Option, Some, None, length, refl, sym, ap, ◌∙◌, append_assoc, append-nil}
+use Rattle.std.proofs.Common.{◌≡◌, ℕ, ◌+◌, List, [], ◌∷◌, ◌++◌, Bool, true, false, Option, Some, None, length, refl, sym, ap, ◌∙◌, append_assoc, append-nil}
 use Rattle.std.proofs.lemmas.List.{nil_from_length}
 use Rattle.std.specs.Io.KnownBytes.{Appends}
-use Rattle.std.proofs.KnownBytes.{Appends-trans}
+use Rattle.std.proofs.KnownBytes.{Appends-nil, Appends-trans}
 use Rattle.fan_io.specs.Bytes.{AppendsFront}
-use Rattle.fan_world.specs.World.{WorldState, opening_world}
-use Rattle.fan_shell.specs.declared.status.Status.{Status}
+use Rattle.fan_machine.specs.World.{WorldState, initial_world}
+use Rattle.fan_shell.specs.Answers.{IsStart, IsTurn}
 use Rattle.fan_shell.specs.declared.status.Status.TheVariants as statuses
-use Rattle.fan_shell.specs.Playing.{turn, after_turn, played, play}
-use Rattle.fan_shell.specs.Script.{lines_of}
+use Rattle.fan_shell.specs.Playing.{Turn, turn, after_turn, played, play}
+use Rattle.fan_shell.specs.Script.{Printed, behind, lines_of}
+use Rattle.fan_world.specs.Machine.{IsMachine, Parts}
 
--- a text, and then what lines that follow print
-abbrev pub behind : List ℕ → List ℕ × Status → List ℕ × Status
-behind written rest = (written ++ rest.0, rest.1)
-
--- the lines before `rest` printed `written`, and left this state for the next line
-pub record Leads (script written rest : List ℕ) (world : WorldState) (number : ℕ) : Type 0 where
-  pub is : play script ≡ behind written (played (lines_of rest) world number)
+-- what is printed before `rest` was put, and the parts stand for the world that the next line starts from
+pub record Leads (old now : Option (List ℕ)) (script rest : List ℕ) (parts : Parts) (number : ℕ) : Type 0
+  where
+    pub written : List ℕ
+    pub put : Appends old now written
+    pub world : WorldState
+    pub machine : IsMachine parts world
+    pub is : play script ≡ behind written (played (lines_of rest) world number)
 
 -- at the start nothing is printed
-pub leads_start : (script : List ℕ) → Leads script [] script opening_world 1
+pub leads_start : (old : Option (List ℕ)) (script : List ℕ) (parts : Parts)
+    → IsMachine parts initial_world → Leads old old script script parts 1
 unfolding play
-leads_start script = record { is = refl }
+leads_start old script parts machine =
+    record { written = []; put = Appends-nil old; world = initial_world; machine = machine; is = refl }
+
+-- behind a good line the next one starts
+started : (text : List ℕ) (start : Option WorldState) (go_on : WorldState → Printed) (parts : Parts)
+    → IsStart parts true start
+    → (world : WorldState) × IsMachine parts world × (after_turn text start go_on ≡ behind text (go_on world))
+started text None go_on parts start = absurd start
+started text (Some world) go_on parts start = (world, start, refl)
+
+-- behind a bad line nothing follows
+stopped : (text : List ℕ) (start : Option WorldState) (go_on : WorldState → Printed) (parts : Parts)
+    → IsStart parts false start
+    → after_turn text start go_on ≡ record { text = text; status = statuses.BadLine }
+stopped text None go_on parts start = refl
+stopped text (Some world) go_on parts start = absurd start
 
 -- the text of a turn stands at the front of what follows it
-text_after : (start : Option WorldState) (go_on : WorldState → List ℕ × Status) (text : List ℕ) → (rest_text : List ℕ) × ((after_turn text start go_on).0 ≡ text ++ rest_text)
-text_after None go_on text = ([], sym (append-nil text))
-text_after (Some start) go_on text = ((go_on start).0, refl)
+text_after : (text : List ℕ) (start : Option WorldState) (go_on : WorldState → Printed)
+    → (rest : List ℕ) × ((after_turn text start go_on).text ≡ text ++ rest)
+text_after text None go_on = ([], sym (append-nil text))
+text_after text (Some start) go_on = ((go_on start).text, refl)
 
-module _ (script written rest line more : List ℕ) (world : WorldState) (number : ℕ) (leads : Leads script written rest world number) (lines : lines_of rest ≡ line ∷ lines_of more) where
+-- the text of a turn is all that was put, if nothing was there before
+turn_text : {parts : Parts} {before now : List ℕ} {good : Bool} {turn : Turn} (text : List ℕ)
+    → IsTurn parts before now good turn → before ≡ [] → text ≡ now → text ≡ turn.text
+turn_text text done empty is = is ∙ done.put ∙ rw empty refl
+
+module _ {old now : Option (List ℕ)} {script rest : List ℕ} {parts : Parts} {number : ℕ}
+    (leads : Leads old now script rest parts number)
+    (line more : List ℕ) (lines : lines_of rest ≡ line ∷ lines_of more) where
+  abbrev here : Turn
+  here = turn leads.world number line
+
+  abbrev later : WorldState → Printed
+  later world = played (lines_of more) world (number + 1)
+
   -- what a script prints, from its next line on
-  turned : play script ≡ behind written (after_turn (turn world number line).0 (turn world number line).1 (λ next_world. played (lines_of more) next_world (number + 1)))
-  turned = leads.is ∙ ap (λ pieces. behind written (played pieces world number)) lines
+  turned : play script ≡ behind leads.written (after_turn here.text here.start later)
+  turned = leads.is ∙ ap (λ pieces. behind leads.written (played pieces leads.world number)) lines
 
-  -- a good line was answered
-  pub leads_more : (text : List ℕ) (next_world : WorldState) → text ≡ (turn world number line).0 → (turn world number line).1 ≡ Some next_world → Leads script (written ++ text) more next_world (number + 1)
-  leads_more text next_world said start = record {
-    is =
-        turned ∙ rw (start, said) (ap (λ all. (all, (played (lines_of more) next_world (number + 1)).1)) (sym (append_assoc written (turn world number line).0 (played (lines_of more) next_world (number + 1)).0)));
-  }
+  -- the next line was answered, and is a good one
+  pub leads_more : {new : Option (List ℕ)} {text before answer : List ℕ} {next_parts : Parts} {good : Bool}
+      → IsTurn next_parts before answer good here → before ≡ [] → text ≡ answer → good ≡ true
+      → Appends now new text → Leads old new script more next_parts (number + 1)
+  leads_more {new} {text} {before} {answer} {next_parts} done empty is is_good put =
+      let said : text ≡ here.text = turn_text text done empty is in
+      let next = started here.text here.start later next_parts (rw is_good at done.start) in
+      record {
+        written = leads.written ++ text;
+        put = Appends-trans old now new leads.written text leads.put put;
+        world = next.0;
+        machine = next.1;
+        is = turned ∙ ap (λ printed. behind leads.written printed) next.2 ∙ rw said (simp append_assoc);
+      }
 
-  -- a bad line ends the transcript
-  pub leads_bad : (text : List ℕ) → text ≡ (turn world number line).0 → (turn world number line).1 ≡ None → play script ≡ (written ++ text, statuses.BadLine)
-  leads_bad text said none = turned ∙ rw (none, said) refl
+  -- a bad line ends what is printed
+  leads_bad : {before answer : List ℕ} {next_parts : Parts} {good : Bool}
+      → IsTurn next_parts before answer good here → good ≡ false
+      → play script ≡ record { text = leads.written ++ here.text; status = statuses.BadLine }
+  leads_bad {before} {answer} {next_parts} done is_bad =
+      turned ∙ ap (λ printed. behind leads.written printed)
+      (stopped here.text here.start later next_parts (rw is_bad at done.start))
 
-  -- the text of the next line stands behind what is printed
-  pub text_here : (rest_text : List ℕ) × ((play script).0 ≡ written ++ ((turn world number line).0 ++ rest_text))
-  text_here =
-      let next = text_after (turn world number line).1 (λ next_world. played (lines_of more) next_world (number + 1)) (turn world number line).0 in
-      (next.0, ap (λ (r : List ℕ × Status). r.0) turned ∙ ap (λ text. written ++ text) next.1)
+  -- so all is put, once its text is
+  pub leads_bad_put : (new : Option (List ℕ)) {text before answer : List ℕ} {next_parts : Parts} {good : Bool}
+      → IsTurn next_parts before answer good here → before ≡ [] → text ≡ answer → good ≡ false
+      → Appends now new text → Appends old new (play script).text
+  leads_bad_put new {text} done empty is is_bad put =
+      let said : text ≡ here.text = turn_text text done empty is in
+      rw (leads_bad done is_bad, ← said) (Appends-trans old now new leads.written text leads.put put)
+
+  -- a front of the next line's text, behind what is printed, is a front of the whole
+  pub leads_front : {new : Option (List ℕ)} {text before answer : List ℕ} {next_parts : Parts} {good : Bool}
+      → IsTurn next_parts before answer good here → before ≡ [] → text ≡ answer
+      → AppendsFront now new text → AppendsFront old new (play script).text
+  leads_front {new} {text} done empty is front =
+      let said : text ≡ here.text = turn_text text done empty is in
+      let next = text_after here.text here.start later in
+      let all : (play script).text ≡ leads.written ++ (text ++ next.0) =
+      ap (λ (r : Printed). r.text) turned ∙ ap (λ rest. leads.written ++ rest) next.1 ∙ rw said refl in
+      record {
+        put = leads.written ++ front.put;
+        rest = front.rest ++ next.0;
+        whole = rw (all, ← front.whole) (simp append_assoc);
+        appended = Appends-trans old now new leads.written front.put leads.put front.appended;
+      }
 
 -- at the end all is printed
-pub leads_end : {script written rest : List ℕ} {world : WorldState} {number : ℕ} → Leads script written rest world number → length rest ≡ 0 → play script ≡ (written, statuses.Ok)
+pub leads_end : {old now : Option (List ℕ)} {script rest : List ℕ} {parts : Parts} {number : ℕ}
+    (leads : Leads old now script rest parts number)
+    → length rest ≡ 0 → play script ≡ record { text = leads.written; status = statuses.Ok }
 unfolding lines_of
-leads_end {script} {written} {rest} leads none = leads.is ∙ rw (nil_from_length rest none, append-nil) refl
-
--- a front of one text, put behind the texts before it, is a front of the whole
-pub front_behind : (old mid new : Option (List ℕ)) (written text rest all : List ℕ) → Appends old mid written → AppendsFront mid new text → all ≡ written ++ (text ++ rest) → AppendsFront old new all
-front_behind old mid new written text rest all before front is = record {
-  put = written ++ front.put;
-  rest = front.rest ++ rest;
-  whole = rw (is, ← front.whole) (simp append_assoc);
-  appended = Appends-trans old mid new written front.put before front.appended;
-}
-
--- texts that were put whole are a front of the whole
-pub front_whole : (old new : Option (List ℕ)) (written rest all : List ℕ) → Appends old new written → all ≡ written ++ rest → AppendsFront old new all
-front_whole old new written rest all put is = record { put = written; rest = rest; whole = sym is; appended = put }
+leads_end {old} {now} {script} {rest} leads none =
+    leads.is ∙ rw (nil_from_length rest none, append-nil) refl

@@ -1,25 +1,46 @@
--- The texts of runs, one single step after another.
-use Rattle.std.proofs.Common.{◌≡◌, ℕ, zero, suc, ◌-◌, ◌<◌, List, [], ◌∷◌, ◌++◌, true, false, refl, arith, append_assoc, append-nil}
+-- The answers of runs, one single step after another.
+use Rattle.std.proofs.Common.{◌≡◌, ℕ, zero, suc, ◌-◌, ◌<◌, List, [], ◌∷◌, ◌++◌, Bool, true, false, refl, sym, ◌∙◌, arith, append_assoc, append-nil}
 use Rattle.std.specs.Prelude.{codes}
+use Rattle.fan_machine.specs.Next.{next}
+use Rattle.fan_machine.specs.Outcome.{Outcome}
+use Rattle.fan_machine.specs.Run.{Ran, is_last, ran}
+use Rattle.fan_machine.specs.World.{WorldState}
 use Rattle.fan_script.specs.declared.step.Step.TheVariants as steps
-use Rattle.fan_script.specs.declared.reply.Reply.{Reply}
-use Rattle.fan_world.specs.Run.{ends_run, ran}
-use Rattle.fan_world.specs.World.{WorldState, next}
+use Rattle.fan_shell.specs.Answers.{IsAnswered, IsSingleStep}
 use Rattle.fan_shell.specs.Texts.{reply_text, more_text, answers_text}
+use Rattle.fan_world.specs.Machine.{IsMachine, Parts}
+
+-- the outcome of the first single step of a run
+abbrev pub first_of : WorldState → ℕ → Outcome
+first_of world access = next world (steps.Advance access)
+
+-- what a run goes on with, once its first single step is made
+abbrev more_of : ℕ → WorldState → ℕ → Ran
+more_of left world access = ran (left - 1) (first_of world access).world access
 
 -- a run of no single steps has no answers
-pub run_none : (world : WorldState) (access : ℕ) → ran 0 world access ≡ ([], world)
+run_none : (world : WorldState) (access : ℕ) → ran 0 world access ≡ record { answers = []; world = world }
 unfolding ran
 run_none world access = refl
 
 -- the first single step ends the run
-pub run_ends : (left : ℕ) (world : WorldState) (access : ℕ) → 0 < left → ends_run (next world (steps.Advance access)).0 ≡ true → ran left world access ≡ ((next world (steps.Advance access)).0 ∷ [], (next world (steps.Advance access)).1)
+run_ends : (left : ℕ) (world : WorldState) (access : ℕ) → 0 < left
+    → is_last (first_of world access).reply ≡ true
+    → ran left world access ≡ record {
+      answers = (first_of world access).reply ∷ [];
+      world = (first_of world access).world;
+    }
 unfolding ran
 run_ends zero world access some ends = absurd (omega arith)
 run_ends (suc left) world access some ends = rw ends refl
 
 -- the first single step goes on
-pub run_goes_on : (left : ℕ) (world : WorldState) (access : ℕ) → 0 < left → ends_run (next world (steps.Advance access)).0 ≡ false → ran left world access ≡ ((next world (steps.Advance access)).0 ∷ (ran (left - 1) (next world (steps.Advance access)).1 access).0, (ran (left - 1) (next world (steps.Advance access)).1 access).1)
+run_goes_on : (left : ℕ) (world : WorldState) (access : ℕ) → 0 < left
+    → is_last (first_of world access).reply ≡ false
+    → ran left world access ≡ record {
+      answers = (first_of world access).reply ∷ (more_of left world access).answers;
+      world = (more_of left world access).world;
+    }
 unfolding ran
 run_goes_on zero world access some goes = absurd (omega arith)
 run_goes_on (suc left) world access some goes =
@@ -27,33 +48,60 @@ run_goes_on (suc left) world access some goes =
     rw (goes, less) refl
 
 module _ (left : ℕ) (world : WorldState) (access : ℕ) where
-  abbrev first : Reply × WorldState
-  first = next world (steps.Advance access)
+  abbrev first : Outcome
+  first = first_of world access
+
+  abbrev all : Ran
+  all = ran left world access
+
+  abbrev more : Ran
+  more = more_of left world access
 
   -- with no single step left, nothing is put and nothing changes
-  pub more_none : (text : List ℕ) → left ≡ 0 → text ≡ text ++ more_text (ran left world access).0
-  more_none text none = rw (none, run_none, append-nil) refl
-
-  pub state_none : left ≡ 0 → world ≡ (ran left world access).1
-  state_none none = rw (none, run_none) refl
+  pub more_none : {parts : Parts} (text : List ℕ) → left ≡ 0 → IsMachine parts world
+      → IsAnswered parts text text (more_text all.answers) all.world
+  more_none text none machine =
+      rw (none, run_none) (record { put = sym (append-nil text); machine = machine })
 
   -- the answer that ends the run is the last that is put
-  pub more_ends : (before after : List ℕ) → 0 < left → ends_run first.0 ≡ true → after ≡ (before ++ codes ", ") ++ reply_text first.0 → after ≡ before ++ more_text (ran left world access).0
-  more_ends before after some ends put = rw (run_ends left world access some ends, put, append_assoc, append-nil) refl
-
-  pub state_ends : (after : WorldState) → 0 < left → ends_run first.0 ≡ true → after ≡ first.1 → after ≡ (ran left world access).1
-  state_ends after some ends here = rw (run_ends left world access some ends, here) refl
+  pub all_end : {parts : Parts} {before now : List ℕ} {ends : Bool} → 0 < left → ends ≡ true
+      → IsSingleStep parts before now ends first
+      → IsAnswered parts before now (answers_text all.answers) all.world
+  all_end some stops single =
+      rw (run_ends left world access some (sym single.last ∙ stops)) (record {
+        put = rw append-nil single.put;
+        machine = single.machine;
+      })
 
   -- an answer that goes on, and those behind it
-  pub more_goes_on : (before mid after : List ℕ) → 0 < left → ends_run first.0 ≡ false → mid ≡ (before ++ codes ", ") ++ reply_text first.0 → after ≡ mid ++ more_text (ran (left - 1) first.1 access).0 → after ≡ before ++ more_text (ran left world access).0
-  more_goes_on before mid after some goes put more = rw (run_goes_on left world access some goes, more, put) (simp append_assoc)
+  pub all_go_on : {mid_parts parts : Parts} {before mid now : List ℕ} {ends : Bool} → 0 < left → ends ≡ false
+      → IsSingleStep mid_parts before mid ends first
+      → IsAnswered parts mid now (more_text more.answers) more.world
+      → IsAnswered parts before now (answers_text all.answers) all.world
+  all_go_on some goes single later =
+      rw (run_goes_on left world access some (sym single.last ∙ goes)) (record {
+        put = later.put ∙ rw single.put (simp append_assoc);
+        machine = later.machine;
+      })
 
-  pub state_goes_on : (after : WorldState) → 0 < left → ends_run first.0 ≡ false → after ≡ (ran (left - 1) first.1 access).1 → after ≡ (ran left world access).1
-  state_goes_on after some goes here = rw (run_goes_on left world access some goes, here) refl
+  -- the same of answers that a comma stands before
+  pub more_ends : {parts : Parts} {before comma now : List ℕ} {ends : Bool} → 0 < left → ends ≡ true
+      → comma ≡ before ++ codes ", " → IsSingleStep parts comma now ends first
+      → IsAnswered parts before now (more_text all.answers) all.world
+  more_ends {before = before} some stops behind single =
+      rw (run_ends left world access some (sym single.last ∙ stops)) (record {
+        put =
+            single.put ∙ rw (behind, append-nil) (append_assoc before (codes ", ") (reply_text first.reply));
+        machine = single.machine;
+      })
 
-  -- the same of the first answer, which no comma stands before
-  pub all_end : (before after : List ℕ) → 0 < left → ends_run first.0 ≡ true → after ≡ before ++ reply_text first.0 → after ≡ before ++ answers_text (ran left world access).0
-  all_end before after some ends put = rw (run_ends left world access some ends, put, append-nil) refl
-
-  pub all_go_on : (before mid after : List ℕ) → 0 < left → ends_run first.0 ≡ false → mid ≡ before ++ reply_text first.0 → after ≡ mid ++ more_text (ran (left - 1) first.1 access).0 → after ≡ before ++ answers_text (ran left world access).0
-  all_go_on before mid after some goes put more = rw (run_goes_on left world access some goes, more, put) (append_assoc before (reply_text first.0) (more_text (ran (left - 1) first.1 access).0))
+  pub more_goes_on : {mid_parts parts : Parts} {before comma mid now : List ℕ} {ends : Bool}
+      → 0 < left → ends ≡ false
+      → comma ≡ before ++ codes ", " → IsSingleStep mid_parts comma mid ends first
+      → IsAnswered parts mid now (more_text more.answers) more.world
+      → IsAnswered parts before now (more_text all.answers) all.world
+  more_goes_on some goes behind single later =
+      rw (run_goes_on left world access some (sym single.last ∙ goes)) (record {
+        put = later.put ∙ rw (single.put, behind) (simp append_assoc);
+        machine = later.machine;
+      })

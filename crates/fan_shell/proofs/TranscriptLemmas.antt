@@ -1,13 +1,13 @@
 -- The transcript of a script is what playing it prints, and there is no other.
-use Rattle.std.proofs.Common.{◌≡◌, ℕ, ◌+◌, List, [], ◌∷◌, ◌++◌, Option, Some, None, refl, sym, ap, ◌∙◌}
+use Rattle.std.proofs.Common.{◌≡◌, ℕ, ◌+◌, List, [], ◌∷◌, Option, Some, None, refl, sym, ap, ◌∙◌}
 use Rattle.std.specs.Io.KnownBytes.{Appends}
 use Rattle.fan_io.specs.Bytes.{AppendsFront}
-use Rattle.fan_world.specs.World.{WorldState, opening_world}
+use Rattle.fan_machine.specs.World.{WorldState, initial_world}
 use Rattle.fan_script.specs.declared.line.Line.{Line}
 use Rattle.fan_shell.specs.declared.status.Status.{Status}
 use Rattle.fan_shell.specs.Outcome.{Tells, TellsFront}
 use Rattle.fan_shell.specs.Playing.{taken_at, turn, played, play}
-use Rattle.fan_shell.specs.Script.{Taken, AllTaken, Transcript, printed, answered, lines_of}
+use Rattle.fan_shell.specs.Script.{Taken, AllTaken, Printed, Transcript, printed, answered, behind, lines_of}
 use Rattle.fan_shell.proofs.TakenLemmas.{taken_line, taken_again}
 
 none_taken : (bytes : List ℕ) → taken_at bytes ≡ None → Taken bytes None
@@ -18,7 +18,9 @@ taken_none : (bytes : List ℕ) (read : Option Line) → taken_at bytes ≡ read
 taken_none bytes None is none = refl
 taken_none bytes (Some line) is none = absurd (none line (taken_line bytes line is))
 
-all_taken_by : (bytes : List ℕ) (more : List (List ℕ)) (read : Option Line) → taken_at bytes ≡ read → (lines : List (Option Line)) × AllTaken more lines → (lines : List (Option Line)) × AllTaken (bytes ∷ more) lines
+all_taken_by : (bytes : List ℕ) (more : List (List ℕ)) (read : Option Line) → taken_at bytes ≡ read
+    → (lines : List (Option Line)) × AllTaken more lines
+    → (lines : List (Option Line)) × AllTaken (bytes ∷ more) lines
 all_taken_by bytes more None is later = (None ∷ [], (none_taken bytes is, refl))
 all_taken_by bytes more (Some line) is later = (Some line ∷ later.0, (taken_line bytes line is, later.1))
 
@@ -28,7 +30,8 @@ all_taken [] = ([], tt)
 all_taken (bytes ∷ more) = all_taken_by bytes more (taken_at bytes) refl (all_taken more)
 
 -- what is printed for lines is what playing their pieces prints
-printed_is : (pieces : List (List ℕ)) (lines : List (Option Line)) (world : WorldState) (number : ℕ) → AllTaken pieces lines → printed world number lines ≡ played pieces world number
+printed_is : (pieces : List (List ℕ)) (lines : List (Option Line)) (world : WorldState) (number : ℕ)
+    → AllTaken pieces lines → printed world number lines ≡ played pieces world number
 unfolding turn
 printed_is [] [] world number taken = refl
 printed_is [] (line ∷ lines) world number taken = absurd taken
@@ -37,27 +40,32 @@ printed_is (bytes ∷ more) (None ∷ lines) world number taken =
     rw (taken_none bytes (taken_at bytes) refl taken.0) refl
 printed_is (bytes ∷ more) (Some line ∷ lines) world number taken =
     let r = answered world line in
-    rw (taken_again bytes line taken.0) (ap (λ (rest : List ℕ × Status). (r.0 ++ rest.0, rest.1)) (printed_is more lines r.1 (number + 1) taken.1))
+    let rest = printed_is more lines r.world (number + 1) taken.1 in
+    rw (taken_again bytes line taken.0) (ap (λ later. behind r.text later) rest)
 
 -- each script has a transcript
-pub transcript_of : (bytes : List ℕ) → Transcript bytes (play bytes).0 (play bytes).1
+pub transcript_of : (bytes : List ℕ) → Transcript bytes (play bytes).text (play bytes).status
 unfolding play
 transcript_of bytes =
     let lines = all_taken (lines_of bytes) in
-    record { lines = lines.0; taken = lines.1; said = printed_is (lines_of bytes) lines.0 opening_world 1 lines.1 }
+    let said = printed_is (lines_of bytes) lines.0 initial_world 1 lines.1 in
+    record { lines = lines.0; taken = lines.1; said = said }
 
 -- and no other
-pub transcript_is : (bytes text : List ℕ) (status : Status) → Transcript bytes text status → (text, status) ≡ play bytes
+pub transcript_is : (bytes text : List ℕ) (status : Status) → Transcript bytes text status
+    → play bytes ≡ record { text = text; status = status }
 unfolding play
 transcript_is bytes text status transcript =
-    sym transcript.said ∙ printed_is (lines_of bytes) transcript.lines opening_world 1 transcript.taken
+    sym (printed_is (lines_of bytes) transcript.lines initial_world 1 transcript.taken) ∙ transcript.said
 
 -- what playing a script prints, put whole, is its transcript
-pub tells_played : (old new : Option (List ℕ)) (script : List ℕ) (status : Status) → Appends old new (play script).0 → (play script).1 ≡ status → Tells old new script status
+pub tells_played : (old new : Option (List ℕ)) (script : List ℕ) (status : Status)
+    → Appends old new (play script).text → (play script).status ≡ status → Tells old new script status
 tells_played old new script status put is =
-    record { text = (play script).0; transcript = rw is at (transcript_of script); put = put }
+    record { text = (play script).text; transcript = rw is at (transcript_of script); put = put }
 
 -- a front of what playing a script prints is a front of its transcript
-pub tells_front : (old new : Option (List ℕ)) (script : List ℕ) → AppendsFront old new (play script).0 → TellsFront old new script
+pub tells_front : (old new : Option (List ℕ)) (script : List ℕ) → AppendsFront old new (play script).text
+    → TellsFront old new script
 tells_front old new script front = λ text status transcript.
-    rw (ap (λ (r : List ℕ × Status). r.0) (transcript_is script text status transcript)) front
+    rw (ap (λ (r : Printed). r.text) (transcript_is script text status transcript)) at front

@@ -5,6 +5,7 @@ use Rattle.fan_io.specs.Bytes.{AppendsFront}
 use Rattle.fan_shell.specs.declared.status.Status.{Status}
 use Rattle.fan_shell.specs.declared.status.Status.TheVariants as statuses
 use Rattle.fan_shell.specs.Script.{Transcript}
+use Rattle.fan_shell.specs.Status.{IsToldOrCut}
 
 -- the words of the command that answers a script
 abbrev pub IsScript : List (List ℕ) → Type 0
@@ -16,7 +17,8 @@ most_script = 4194304
 
 -- the line that is written where the words are no command
 unfoldable pub usage_line : List ℕ
-usage_line = codes "usage: fanwatch script | dump | check | bulk SEED COUNT | race SEED WORKERS COUNT" ++ 10 ∷ []
+usage_line =
+    codes "usage: fanwatch script | dump | check | bulk SEED COUNT | race SEED WORKERS COUNT" ++ 10 ∷ []
 
 -- the transcript of the bytes was put, whole, and the status is the transcript's
 pub record Tells (old new : Option (List ℕ)) (bytes : List ℕ) (status : Status) : Type 0 where
@@ -26,34 +28,22 @@ pub record Tells (old new : Option (List ℕ)) (bytes : List ℕ) (status : Stat
 
 -- a front of the transcript of the bytes was put, and nothing else
 abbrev pub TellsFront : Option (List ℕ) → Option (List ℕ) → List ℕ → Type 0
-TellsFront old new bytes = (text : List ℕ) (status : Status) → Transcript bytes text status → AppendsFront old new text
+TellsFront old new bytes =
+    (text : List ℕ) (status : Status) → Transcript bytes text status → AppendsFront old new text
 
 -- the whole transcript was put, with status 0, or memory ran out
 abbrev pub Completes : Option (List ℕ) → Option (List ℕ) → List ℕ → Status → Type 0
-Completes old new bytes status = ((status ≡ statuses.Ok) × Tells old new bytes status) ⊎ (status ≡ statuses.NoMemory)
+Completes old new bytes status =
+    ((status ≡ statuses.Ok) × Tells old new bytes status) ⊎ (status ≡ statuses.NoMemory)
 
--- what a script may end with
+-- what a script may end with: the source failed or gave too much, or a text was written or cut off
 abbrev pub EndsScript : Status → Type 0
-EndsScript statuses.Ok = Unit {0}
-EndsScript statuses.BadLine = Unit {0}
-EndsScript statuses.Usage = ⊥
 EndsScript statuses.ReadFault = Unit {0}
-EndsScript statuses.WriteFault = Unit {0}
 EndsScript statuses.TooLong = Unit {0}
-EndsScript statuses.NoMemory = Unit {0}
-EndsScript statuses.NotLegal = ⊥
-EndsScript statuses.NoThread = ⊥
-EndsScript statuses.BadRecord = ⊥
+EndsScript status = IsToldOrCut status
 
--- what other words may end with
+-- what other words may end with: the usage line was written or cut off
 abbrev pub EndsUsage : Status → Type 0
-EndsUsage statuses.Ok = ⊥
-EndsUsage statuses.BadLine = ⊥
 EndsUsage statuses.Usage = Unit {0}
-EndsUsage statuses.ReadFault = ⊥
 EndsUsage statuses.WriteFault = Unit {0}
-EndsUsage statuses.TooLong = ⊥
-EndsUsage statuses.NoMemory = ⊥
-EndsUsage statuses.NotLegal = ⊥
-EndsUsage statuses.NoThread = ⊥
-EndsUsage statuses.BadRecord = ⊥
+EndsUsage _ = ⊥

@@ -1,13 +1,12 @@
 -- Playing a script line by line, one function for each function of the player. No caller has to believe it.
-use Rattle.std.specs.Prelude.{ℕ, ◌+◌, List, [], ◌∷◌, ◌++◌, Option, Some, None, if◌then◌else◌}
+use Rattle.std.specs.Prelude.{ℕ, ◌+◌, List, [], ◌∷◌, Option, Some, None, if◌then◌else◌}
 use Rattle.fan_script.specs.Built.{is_built}
 use Rattle.fan_script.specs.declared.line.Line.{Line}
 use Rattle.fan_script.specs.declared.line.Line.TheVariants.{One, Run}
 use Rattle.fan_script.specs.Reading.{line_at}
-use Rattle.fan_world.specs.World.{WorldState, opening_world}
-use Rattle.fan_shell.specs.declared.status.Status.{Status}
+use Rattle.fan_machine.specs.World.{WorldState, initial_world}
 use Rattle.fan_shell.specs.declared.status.Status.TheVariants as statuses
-use Rattle.fan_shell.specs.Script.{answered, bad_line_text, lines_of}
+use Rattle.fan_shell.specs.Script.{Printed, answered, bad_line_text, behind, lines_of}
 
 -- a line whose step is built
 abbrev pub if_built : Option Line → Option Line
@@ -19,27 +18,33 @@ if_built (Some (Run access)) = Some (Run access)
 unfoldable pub taken_at : List ℕ → Option Line
 taken_at bytes = if_built (line_at bytes)
 
--- the text of one line, and the state that the next line starts from, if there is one
-abbrev pub turn_by : Option Line → WorldState → ℕ → List ℕ × Option WorldState
-turn_by None world number = (bad_line_text number, None)
-turn_by (Some line) world number = let r = answered world line in (r.0, Some r.1)
+-- the text of one line, and the world that the next line starts from, if there is one
+pub record Turn : Type 0 where
+  pub text : List ℕ
+  pub start : Option WorldState
+
+-- the turn of a line with this number; none is a bad line
+abbrev pub turn_by : Option Line → WorldState → ℕ → Turn
+turn_by None world number = record { text = bad_line_text number; start = None }
+turn_by (Some line) world number =
+    let r = answered world line in record { text = r.text; start = Some r.world }
 
 -- the same of the bytes of a line
-unfoldable pub turn : WorldState → ℕ → List ℕ → List ℕ × Option WorldState
+unfoldable pub turn : WorldState → ℕ → List ℕ → Turn
 turn world number bytes = turn_by (taken_at bytes) world number
 
--- a text, and then what another line starts
-abbrev pub after_turn : List ℕ → Option WorldState → (WorldState → List ℕ × Status) → List ℕ × Status
-after_turn text None go_on = (text, statuses.BadLine)
-after_turn text (Some start) go_on = let rest = go_on start in (text ++ rest.0, rest.1)
+-- a text, and then what the lines print that follow it, if there is a world to start from
+abbrev pub after_turn : List ℕ → Option WorldState → (WorldState → Printed) → Printed
+after_turn text None go_on = record { text = text; status = statuses.BadLine }
+after_turn text (Some start) go_on = behind text (go_on start)
 
--- the text and the status of lines, of which the first has this number
-abbrev pub played : List (List ℕ) → WorldState → ℕ → List ℕ × Status
-played [] world number = ([], statuses.Ok)
+-- what is printed for pieces, of which the first has this number
+abbrev pub played : List (List ℕ) → WorldState → ℕ → Printed
+played [] world number = record { text = []; status = statuses.Ok }
 played (bytes ∷ more) world number =
     let r = turn world number bytes in
-    after_turn r.0 r.1 (λ start. played more start (number + 1))
+    after_turn r.text r.start (λ start. played more start (number + 1))
 
--- the text and the status of a script
-unfoldable pub play : List ℕ → List ℕ × Status
-play bytes = played (lines_of bytes) opening_world 1
+-- what is printed for a script
+unfoldable pub play : List ℕ → Printed
+play bytes = played (lines_of bytes) initial_world 1

@@ -6,8 +6,9 @@ use Rattle.fan_script.specs.Built.{IsBuilt}
 use Rattle.fan_script.specs.declared.line.Line.{Line}
 use Rattle.fan_script.specs.declared.line.Line.TheVariants.{One, Run}
 use Rattle.fan_script.specs.Lines.{LineOf}
-use Rattle.fan_world.specs.Run.{ran, most_answers}
-use Rattle.fan_world.specs.World.{WorldState, opening_world, next}
+use Rattle.fan_machine.specs.Next.{next}
+use Rattle.fan_machine.specs.Run.{ran, max_answers}
+use Rattle.fan_machine.specs.World.{WorldState, initial_world}
 use Rattle.fan_shell.specs.declared.status.Status.{Status}
 use Rattle.fan_shell.specs.declared.status.Status.TheVariants as statuses
 use Rattle.fan_shell.specs.Texts.{reply_text, answers_text}
@@ -34,34 +35,49 @@ Taken bytes None = (line : Line) → Takes bytes line → ⊥
 -- the lines that the pieces are, up to the first bad one
 abbrev pub AllTaken : List (List ℕ) → List (Option Line) → Type 0
 AllTaken [] [] = Unit {0}
-AllTaken [] (line ∷ lines) = ⊥
-AllTaken (bytes ∷ more) [] = ⊥
 AllTaken (bytes ∷ more) (None ∷ lines) = Taken bytes None × (lines ≡ [])
 AllTaken (bytes ∷ more) (Some line ∷ lines) = Taken bytes (Some line) × AllTaken more lines
+AllTaken _ _ = ⊥
 
--- the text that answers a line, and the state after it
-unfoldable pub answered : WorldState → Line → List ℕ × WorldState
-answered world (One step) = let r = next world step in (reply_text r.0 ++ 10 ∷ [], r.1)
-answered world (Run access) = let r = ran most_answers world access in (answers_text r.0 ++ 10 ∷ [], r.1)
+-- the text that answers a line, and the world after it
+pub record Answered : Type 0 where
+  pub text : List ℕ
+  pub world : WorldState
+
+-- a step is answered by its reply, and `run` by the answers of its single steps
+unfoldable pub answered : WorldState → Line → Answered
+answered world (One step) =
+    let r = next world step in
+    record { text = reply_text r.reply ++ 10 ∷ []; world = r.world }
+answered world (Run access) =
+    let r = ran max_answers world access in
+    record { text = answers_text r.answers ++ 10 ∷ []; world = r.world }
 
 -- the text that names the first bad line, counted from 1
 unfoldable pub bad_line_text : ℕ → List ℕ
 bad_line_text number = codes "bad line " ++ decimal number ++ 10 ∷ []
 
--- what is printed for lines, of which the first has this number, and the status
-abbrev pub printed : WorldState → ℕ → List (Option Line) → List ℕ × Status
-printed world number [] = ([], statuses.Ok)
-printed world number (None ∷ lines) = (bad_line_text number, statuses.BadLine)
+-- what is printed, and the status
+pub record Printed : Type 0 where
+  pub text : List ℕ
+  pub status : Status
+
+-- a text, and behind it what is printed later
+abbrev pub behind : List ℕ → Printed → Printed
+behind text later = record { text = text ++ later.text; status = later.status }
+
+-- what is printed for lines, of which the first has this number
+abbrev pub printed : WorldState → ℕ → List (Option Line) → Printed
+printed world number [] = record { text = []; status = statuses.Ok }
+printed world number (None ∷ lines) = record { text = bad_line_text number; status = statuses.BadLine }
 printed world number (Some line ∷ lines) =
-    let r = answered world line in
-    let rest = printed r.1 (number + 1) lines in
-    (r.0 ++ rest.0, rest.1)
+    let r = answered world line in behind r.text (printed r.world (number + 1) lines)
 
 -- the transcript of a script, and its status
 pub record Transcript (bytes text : List ℕ) (status : Status) : Type 0 where
   pub lines : List (Option Line)
   pub taken : AllTaken (lines_of bytes) lines
-  pub said : printed opening_world 1 lines ≡ (text, status)
+  pub said : printed initial_world 1 lines ≡ record { text = text; status = status }
 
 -- each of the pieces is a line
 abbrev pub AreLines : List (List ℕ) → Type 0

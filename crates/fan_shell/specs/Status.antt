@@ -20,24 +20,10 @@ code_of statuses.BadRecord = 9
 abbrev pub IsTold : Status → Type 0
 IsTold statuses.Ok = Unit {0}
 IsTold statuses.BadLine = Unit {0}
-IsTold statuses.Usage = ⊥
-IsTold statuses.ReadFault = ⊥
-IsTold statuses.WriteFault = ⊥
-IsTold statuses.TooLong = ⊥
-IsTold statuses.NoMemory = ⊥
-IsTold statuses.NotLegal = ⊥
-IsTold statuses.NoThread = ⊥
-IsTold statuses.BadRecord = ⊥
+IsTold _ = ⊥
 
--- a text was written whole, or cut off by a fault of the sink or by want of memory
+-- a script was answered so, or its text was cut off by a fault of the sink or by want of memory
 abbrev pub IsToldOrCut : Status → Type 0
-IsToldOrCut statuses.Ok = Unit {0}
-IsToldOrCut statuses.BadLine = Unit {0}
-IsToldOrCut statuses.Usage = ⊥
-IsToldOrCut statuses.ReadFault = ⊥
 IsToldOrCut statuses.WriteFault = Unit {0}
-IsToldOrCut statuses.TooLong = ⊥
 IsToldOrCut statuses.NoMemory = Unit {0}
-IsToldOrCut statuses.NotLegal = ⊥
-IsToldOrCut statuses.NoThread = ⊥
-IsToldOrCut statuses.BadRecord = ⊥
+IsToldOrCut status = IsTold status

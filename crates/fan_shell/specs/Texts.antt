@@ -3,10 +3,10 @@ use Rattle.std.specs.Prelude.{ℕ, List, [], ◌∷◌, ◌++◌, codes}
 use Rattle.std.specs.Fmt.{decimal}
 use Rattle.fan_bits.specs.declared.errno.Errno.{Errno}
 use Rattle.fan_bits.specs.declared.errno.Errno.TheVariants as errno
+use Rattle.fan_bits.specs.declared.outcome.StepOutcome.{StepOutcome}
+use Rattle.fan_bits.specs.declared.outcome.StepOutcome.TheVariants as outcomes
 use Rattle.fan_script.specs.declared.reply.Reply.{Reply}
 use Rattle.fan_script.specs.declared.reply.Reply.TheVariants as replies
-use Rattle.fan_script.specs.declared.reply.StepOutcome.{StepOutcome}
-use Rattle.fan_script.specs.declared.reply.StepOutcome.TheVariants as outcomes
 use Rattle.fan_text.specs.Spelling.{hex_text}
 
 -- a refusal is the name of its errno

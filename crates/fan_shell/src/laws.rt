@@ -1,7 +1,9 @@
 // Laws about scripts, each the contract of a function that does nothing.
-ghost use Rattle.std.specs.Prelude.{◌≡◌, ℕ, List};
+ghost use Rattle.std.specs.Prelude.{◌≡◌, ◌++◌, ℕ, List, Option, Some, map};
+ghost use Rattle.fan_script.specs.declared.line.Line.{Line};
 ghost use Rattle.fan_shell.specs.declared.status.Status.{Status};
 ghost use Rattle.fan_shell.specs.Script.{Transcript};
+ghost use Rattle.fan_shell.specs.Steps.{printed_by_steps};
 
 /// Each list of bytes has exactly one transcript and one status.
 pub fn exactly_one_transcript()
@@ -11,4 +13,14 @@ pub fn exactly_one_transcript()
         → Transcript bytes a p → Transcript bytes b q → a ≡ b }
     ensures one_status { (bytes a b : List ℕ) (p q : Status)
         → Transcript bytes a p → Transcript bytes b q → p ≡ q }
+{}
+
+/// A transcript follows the steps of its lines: what it has for some good lines, from the first on,
+/// are the replies to their steps, one after another from the initial world on; what stands behind
+/// them is printed from the world after all these steps.
+pub fn transcripts_follow_the_steps()
+    ensures { (bytes text : List ℕ) (status : Status) (transcript : Transcript bytes text status)
+        (good : List Line) (later : List (Option Line))
+        → transcript.lines ≡ map (λ line. Some line) good ++ later
+        → printed_by_steps good later ≡ record { text = text; status = status } }
 {}

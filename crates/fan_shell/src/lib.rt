@@ -8,7 +8,7 @@ mod script;
 mod status;
 mod texts;
 
-pub use laws::exactly_one_transcript;
+pub use laws::{exactly_one_transcript, transcripts_follow_the_steps};
 pub use plain::run_plain;
 pub use status::Status;
 

@@ -64,6 +64,8 @@ fn run_script<S: Source, K: Sink>(alloc: Global, source: &mut S, sink: &mut K) -
         → (Rose (K.faults sink.old) (K.faults sink.new) → ⊥)
         → IfSome (S.left source.old) (λ bytes. length bytes ≤ most_script → IsValid bytes
         → Completes (K.held sink.old) (K.held sink.new) bytes result) }
+    ensures kept_source { S.faults source.old ≤ S.faults source.new }
+    ensures kept_sink { K.faults sink.old ≤ K.faults sink.new }
 {
     match take_all(alloc, source, MOST_SCRIPT) {
         Ok(script) => write_transcript(alloc, &script, sink),
@@ -73,8 +75,9 @@ fn run_script<S: Source, K: Sink>(alloc: Global, source: &mut S, sink: &mut K) -
     }
 }
 
-/// Does the command that the words name, over a source and a sink, and answers how it ended. It always
-/// returns. The words `script` write the transcript of the source's bytes; all other words the usage line.
+/// Does the command that the words name, over a source and a sink, and answers how it ended. It
+/// always returns. The words `script` write the transcript of the source's bytes; all other words the
+/// usage line.
 pub fn run_plain<S: Source, K: Sink>(
     alloc: Global,
     words: &[String],
@@ -99,6 +102,10 @@ pub fn run_plain<S: Source, K: Sink>(
         → (Rose (K.faults sink.old) (K.faults sink.new) → ⊥)
         → IfSome (S.left source.old) (λ bytes. length bytes ≤ most_script → IsValid bytes
         → Completes (K.held sink.old) (K.held sink.new) bytes result) }
+
+    // No count of faults falls.
+    ensures kept_source { S.faults source.old ≤ S.faults source.new }
+    ensures kept_sink { K.faults sink.old ≤ K.faults sink.new }
 
     // When a fault comes, and when too many bytes.
     ensures read_fault { result ≡ Status.ReadFault

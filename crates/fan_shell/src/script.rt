@@ -1,11 +1,14 @@
 // A script, answered line by line.
-ghost use Rattle.std.specs.Prelude.{◌≡◌, ◌≢◌, ◌+◌, ◌*◌, ◌<◌, ◌≤◌, ◌^◌, ◌++◌, ◌∷◌, ◌==◌, [], true, length, position, Some, None, IfOk, IfSome, OnOk, OnErr, if◌then◌else◌};
+ghost use Rattle.std.specs.Prelude.{◌≡◌, ◌≢◌, ◌+◌, ◌*◌, ◌<◌, ◌≤◌, ◌^◌, ◌++◌, ◌∷◌, ◌==◌, [], true, length, position, Some, None, IfOk, IfSome, OnOk, OnErr};
 ghost use Rattle.std.specs.Io.KnownBytes.{Appends};
 ghost use Rattle.fan_io.specs.Bytes.{AppendsFront};
 ghost use Rattle.fan_io.specs.Faults.{Rose};
+ghost use Rattle.fan_machine.specs.World.{WorldState, initial_world};
+ghost use Rattle.fan_shell.specs.Answers.{IsAnswered, IsTurn};
 ghost use Rattle.fan_shell.specs.Playing.{if_built, taken_at, turn, play};
 ghost use Rattle.fan_shell.specs.Status.{IsTold, IsToldOrCut};
 ghost use Rattle.fan_shell.specs.Script.{answered, bad_line_text, lines_of};
+ghost use Rattle.fan_world.specs.Machine.{IsMachine};
 
 use crate::run::push_run;
 use crate::status::Status;
@@ -44,35 +47,30 @@ fn read_if_line(alloc: Global, bytes: &[u8]) -> Result<Option<Line>, NoMemory>
 
 // Does what a line asks for, and puts the text that answers it at the end.
 #[tactic(auto, using(std::proofs::Common::append_assoc), unfolding(crate::specs::Script::answered))]
-fn push_answered(
-    alloc: Global,
-    world: &mut World,
-    line: &Line,
-    out: &mut Vec<u8>,
-) -> Result<(), NoMemory>
+fn push_answered(world: &mut World, line: &Line, out: &mut Vec<u8>) -> Result<(), NoMemory>
     requires { world.old.steps + 385 ≤ 2 ^ 30 }
-    ensures text { OnOk result (out.new.items
-        ≡ out.old.items ++ (answered world.old.state line.now).0) }
-    ensures state { OnOk result (world.new.state ≡ (answered world.old.state line.now).1) }
+    ensures ok { OnOk result ((state : WorldState) → IsMachine world.old state
+        → (let answer = answered state line.now in
+        IsAnswered world.new out.old.items out.new.items answer.text answer.world)) }
     ensures steps { world.new.steps ≤ world.old.steps + 385 }
 {
     match line {
         Line::One(step) => {
             let reply = world.step(step)?;
-            push_reply(alloc, out, &reply)?;
+            push_reply(out, &reply)?;
         }
-        Line::Run(access) => push_run(alloc, world, *access, out)?,
+        Line::Run(access) => push_run(world, *access, out)?,
     }
     push_text(out, "\n")
 }
 
 // Puts the text that names a bad line at the end.
 #[tactic(auto, using(std::proofs::Common::append_assoc), unfolding(crate::specs::Script::bad_line_text))]
-fn push_bad_line(alloc: Global, out: &mut Vec<u8>, number: u32) -> Result<(), NoMemory>
+fn push_bad_line(out: &mut Vec<u8>, number: u32) -> Result<(), NoMemory>
     ensures { OnOk result (out.new.items ≡ out.old.items ++ bad_line_text number) }
 {
     push_text(out, "bad line ")?;
-    push_number(alloc, out, number.into())?;
+    push_number(out, number.into())?;
     push_text(out, "\n")
 }
 
@@ -86,20 +84,18 @@ fn answer_line(
     out: &mut Vec<u8>,
 ) -> Result<bool, NoMemory>
     requires { world.old.steps + 385 ≤ 2 ^ 30 }
-    ensures text { OnOk result (out.new.items
-        ≡ out.old.items ++ (turn world.old.state number bytes.now).0) }
-    ensures start { IfOk result (λ good. (turn world.old.state number bytes.now).1
-        ≡ (if good then Some world.new.state else None)) }
+    ensures ok { IfOk result (λ good. (state : WorldState) → IsMachine world.old state
+        → IsTurn world.new out.old.items out.new.items good (turn state number bytes.now)) }
     ensures steps { world.new.steps ≤ world.old.steps + 385 }
     ensures long { IfOk result (λ good. good ≡ true → 4 ≤ length bytes.now) }
 {
     match read_if_line(alloc, bytes)? {
         None => {
-            push_bad_line(alloc, out, number)?;
+            push_bad_line(out, number)?;
             Ok(false)
         }
         Some(line) => {
-            push_answered(alloc, world, &line, out)?;
+            push_answered(world, &line, out)?;
             Ok(true)
         }
     }
@@ -132,23 +128,40 @@ fn split_line(script: &[u8]) -> (&[u8], &[u8])
 /// Writes the transcript of a script, line by line, up to its end, its first bad line or a failure.
 pub(crate) fn write_transcript<K: Sink>(alloc: Global, script: &[u8], sink: &mut K) -> Status
     requires { length script.now ≤ 4194304 }
-    ensures told { IsTold result → Appends (K.held sink.old) (K.held sink.new) (play script.now).0 }
-    ensures status { IsTold result → (play script.now).1 ≡ result }
-    ensures front { AppendsFront (K.held sink.old) (K.held sink.new) (play script.now).0 }
+    ensures told { IsTold result
+        → Appends (K.held sink.old) (K.held sink.new) (play script.now).text }
+    ensures status { IsTold result → (play script.now).status ≡ result }
+    ensures front { AppendsFront (K.held sink.old) (K.held sink.new) (play script.now).text }
     ensures fault { result ≡ Status.WriteFault → Rose (K.faults sink.old) (K.faults sink.new) }
     ensures others { IsToldOrCut result }
     ensures kept { K.faults sink.old ≤ K.faults sink.new }
 {
-    let Ok(mut world) = World::new(alloc) else {
-        return Status::NoMemory;
-    };
+    match World::new(alloc) {
+        Ok(mut world) => write_lines(alloc, &mut world, script, sink),
+        Err(NoMemory) => Status::NoMemory,
+    }
+}
+
+// Answers the lines of a script by a machine that is new, and puts their texts.
+fn write_lines<K: Sink>(alloc: Global, world: &mut World, script: &[u8], sink: &mut K) -> Status
+    requires most { length script.now ≤ 4194304 }
+    requires machine { IsMachine world.old initial_world }
+    requires steps { world.old.steps ≡ 0 }
+    ensures told { IsTold result
+        → Appends (K.held sink.old) (K.held sink.new) (play script.now).text }
+    ensures status { IsTold result → (play script.now).status ≡ result }
+    ensures front { AppendsFront (K.held sink.old) (K.held sink.new) (play script.now).text }
+    ensures fault { result ≡ Status.WriteFault → Rose (K.faults sink.old) (K.faults sink.new) }
+    ensures others { IsToldOrCut result }
+    ensures kept { K.faults sink.old ≤ K.faults sink.new }
+{
     let mut number = 1;
     let mut rest = script;
     let mut text = Vec::new(alloc);
     while !rest.is_empty() {
         let (line, more) = split_line(rest);
         text.clear();
-        let good = match answer_line(alloc, &mut world, number, line, &mut text) {
+        let good = match answer_line(alloc, world, number, line, &mut text) {
             Ok(good) => good,
             Err(NoMemory) => return Status::NoMemory,
         };

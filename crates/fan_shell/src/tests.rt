@@ -2,55 +2,79 @@
 use crate::{Status, run_plain};
 use fan_io::{MemSink, MemSource};
 use std::alloc::Global;
+use std::process::Abort;
 use std::test::Fail;
+
+mod accesses;
+mod limits;
+mod marks;
+mod tree;
 
 const FIRST: &[u8] =
     b"mkfile /a\ninit 0\nmark 1 1 20 /a\nbegin 7 41 41 open /a\nrun 7\nread 1 4096\n";
 
+const FIRST_TEXT: &[u8] =
+    b"inode 4\ngroup 1\nok\nok\ntold 1 queued, done\nbytes 180000000300180020000000000000000000000029000000\n";
+
+const USAGE: &[u8] =
+    b"usage: fanwatch script | dump | check | bulk SEED COUNT | race SEED WORKERS COUNT\n";
+
 // How a command ends whose source and sink fail at these calls, where 0 is no call, and what it wrote.
 fn ended(
     alloc: Global,
-    word: &str,
+    words: &[&str],
     script: &[u8],
     failing_take: u64,
     failing_put: u64,
 ) -> Result<(Status, MemSink), Fail> {
-    let words = vec![in alloc; String::from_str(alloc, word)?]?;
+    let mut owned = Vec::new(alloc);
+    for word in words {
+        owned.push(String::from_str(alloc, word)?)?;
+    }
     let mut source = MemSource::new(
         Vec::from_slice(alloc, script)?,
         vec![in alloc; failing_take]?,
     );
     let mut sink = MemSink::new(alloc, vec![in alloc; failing_put]?);
-    let status = run_plain(alloc, &words, &mut source, &mut sink);
+    let status = run_plain(alloc, &owned, &mut source, &mut sink);
     Ok((status, sink))
 }
 
+// Plays a script, each line of which has its reply behind " > ".
+fn assert_plays(rt: &(impl Abort + AllocGlobal), lines: &str) -> Result<(), Fail> {
+    let mut script = Vec::new(rt.alloc());
+    let mut transcript = Vec::new(rt.alloc());
+    for line in lines.lines() {
+        let (step, reply) = line.split_once(" > ").unwrap_or((line, "no reply"));
+        script.extend_from_slice(step.as_bytes())?;
+        script.push(b'\n')?;
+        transcript.extend_from_slice(reply.as_bytes())?;
+        transcript.push(b'\n')?;
+    }
+    let (status, sink) = ended(rt.alloc(), &["script"], &script, 0, 0)?;
+    assert_eq!(rt; status, Status::Ok);
+    assert_eq!(rt; str::from_utf8(sink.bytes()), str::from_utf8(&transcript));
+    Ok(())
+}
+
 #[test]
-fn scripts_give_their_transcripts(rt: HostRuntime) -> Result<(), Fail> {
-    let table: [(&str, &[u8], Status, &[u8]); 5] = [
+fn commands_end_with_their_status_and_text(rt: HostRuntime) -> Result<(), Fail> {
+    let table: [(&[&str], &[u8], Status, &[u8]); 7] = [
+        (&["script"], FIRST, Status::Ok, FIRST_TEXT),
+        (&["script"], b"", Status::Ok, b""),
         (
-            "script",
-            FIRST,
-            Status::Ok,
-            b"inode 4\ngroup 1\nok\nok\ntold 1 queued, done\nbytes 180000000300180020000000000000000000000029000000\n",
-        ),
-        ("script", b"", Status::Ok, b""),
-        (
-            "script",
+            &["script"],
             b"mkfile /a\nopen /a\n",
             Status::BadLine,
             b"inode 4\nbad line 2\n",
         ),
-        ("script", b"mkfile /a", Status::Ok, b"inode 4\n"),
-        (
-            "scripts",
-            FIRST,
-            Status::Usage,
-            b"usage: fanwatch script | dump | check | bulk SEED COUNT | race SEED WORKERS COUNT\n",
-        ),
+        (&["script"], b"mkfile /a", Status::Ok, b"inode 4\n"),
+        (&[], FIRST, Status::Usage, USAGE),
+        (&["scripts"], FIRST, Status::Usage, USAGE),
+        (&["script", "script"], FIRST, Status::Usage, USAGE),
     ];
-    for (word, script, status, text) in table {
-        let (ended, sink) = ended(rt.alloc(), word, script, 0, 0)?;
+    for (words, script, status, text) in table {
+        let (ended, sink) = ended(rt.alloc(), words, script, 0, 0)?;
         assert_eq!(rt; ended, status);
         assert_eq!(rt; sink.bytes(), text);
     }
@@ -59,7 +83,7 @@ fn scripts_give_their_transcripts(rt: HostRuntime) -> Result<(), Fail> {
 
 #[test]
 fn a_source_whose_first_take_fails_writes_nothing(rt: HostRuntime) -> Result<(), Fail> {
-    let (status, sink) = ended(rt.alloc(), "script", FIRST, 1, 0)?;
+    let (status, sink) = ended(rt.alloc(), &["script"], FIRST, 1, 0)?;
     assert_eq!(rt; status, Status::ReadFault);
     assert_eq!(rt; sink.bytes().len(), 0);
     Ok(())
@@ -67,7 +91,7 @@ fn a_source_whose_first_take_fails_writes_nothing(rt: HostRuntime) -> Result<(),
 
 #[test]
 fn a_sink_whose_second_put_fails_holds_the_first_line(rt: HostRuntime) -> Result<(), Fail> {
-    let (status, sink) = ended(rt.alloc(), "script", FIRST, 0, 2)?;
+    let (status, sink) = ended(rt.alloc(), &["script"], FIRST, 0, 2)?;
     assert_eq!(rt; status, Status::WriteFault);
     assert_eq!(rt; sink.bytes(), b"inode 4\n".as_slice());
     Ok(())

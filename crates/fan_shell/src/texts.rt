@@ -7,7 +7,7 @@ use fan_bits::Errno;
 use fan_io::NoMemory;
 use fan_script::{Reply, StepOutcome};
 use fan_text::write_bytes;
-use std::alloc::Global;
+use itoa::Buffer;
 
 // The name of a refusal.
 #[tactic(auto, unfolding(crate::specs::Texts::errno_text))]
@@ -41,94 +41,95 @@ pub(crate) fn push_text(out: &mut Vec<u8>, text: &str) -> Result<(), NoMemory>
 }
 
 /// Puts a number at the end, in decimal.
-pub(crate) fn push_number(alloc: Global, out: &mut Vec<u8>, number: u64) -> Result<(), NoMemory>
+pub(crate) fn push_number(out: &mut Vec<u8>, number: u64) -> Result<(), NoMemory>
     ensures { OnOk result (out.new.items ≡ out.old.items ++ decimal number) }
 {
-    let text = number.to_string(alloc)?;
-    push_text(out, text.as_str())
+    let mut buffer = Buffer::new();
+    push_text(out, buffer.format(number))
 }
 
 // Puts a word and a number at the end.
 #[tactic(auto, using(std::proofs::Common::append_assoc))]
-fn push_named(alloc: Global, out: &mut Vec<u8>, name: &str, number: u64) -> Result<(), NoMemory>
+fn push_named(out: &mut Vec<u8>, name: &str, number: u64) -> Result<(), NoMemory>
     ensures { OnOk result (out.new.items ≡ out.old.items ++ (name.now ++ decimal number)) }
 {
     push_text(out, name)?;
-    push_number(alloc, out, number)
+    push_number(out, number)
 }
 
 // Puts how a group was told at the end.
 #[tactic(auto, using(std::proofs::Common::append_assoc))]
-fn push_told(alloc: Global, out: &mut Vec<u8>, group: u32, how: &str) -> Result<(), NoMemory>
+fn push_told(out: &mut Vec<u8>, group: u32, how: &str) -> Result<(), NoMemory>
     ensures { OnOk result (out.new.items
         ≡ out.old.items ++ (codes "told " ++ decimal group ++ how.now)) }
 {
     push_text(out, "told ")?;
-    push_number(alloc, out, group.into())?;
+    push_number(out, group.into())?;
     push_text(out, how)
 }
 
+// Puts what a single step did at the end.
 #[tactic(auto, using(std::proofs::Common::append_assoc), unfolding(crate::specs::Texts::outcome_text))]
-fn push_outcome(alloc: Global, out: &mut Vec<u8>, outcome: StepOutcome) -> Result<(), NoMemory>
+fn push_outcome(out: &mut Vec<u8>, outcome: StepOutcome) -> Result<(), NoMemory>
     ensures { OnOk result (out.new.items ≡ out.old.items ++ outcome_text outcome) }
 {
     match outcome {
-        StepOutcome::Asked(group) => push_named(alloc, out, "asked ", group.into()),
-        StepOutcome::Blocked(group) => push_named(alloc, out, "blocked ", group.into()),
-        StepOutcome::Allowed(group) => push_named(alloc, out, "allowed ", group.into()),
-        StepOutcome::Denied(group) => push_named(alloc, out, "denied ", group.into()),
-        StepOutcome::Closed(group) => push_named(alloc, out, "closed ", group.into()),
-        StepOutcome::Full(group) => push_named(alloc, out, "full ", group.into()),
-        StepOutcome::Queued(group) => push_told(alloc, out, group, " queued"),
-        StepOutcome::Merged(group) => push_told(alloc, out, group, " merged"),
-        StepOutcome::Overflow(group) => push_told(alloc, out, group, " overflow"),
+        StepOutcome::Asked(group) => push_named(out, "asked ", group.into()),
+        StepOutcome::Blocked(group) => push_named(out, "blocked ", group.into()),
+        StepOutcome::Allowed(group) => push_named(out, "allowed ", group.into()),
+        StepOutcome::Denied(group) => push_named(out, "denied ", group.into()),
+        StepOutcome::Closed(group) => push_named(out, "closed ", group.into()),
+        StepOutcome::Full(group) => push_named(out, "full ", group.into()),
+        StepOutcome::Queued(group) => push_told(out, group, " queued"),
+        StepOutcome::Merged(group) => push_told(out, group, " merged"),
+        StepOutcome::Overflow(group) => push_told(out, group, " overflow"),
         StepOutcome::Done => push_text(out, "done"),
     }
 }
 
 // Puts what single steps did at the end, with a comma between each two.
 #[tactic(auto, using(std::proofs::Common::append_assoc))]
-fn push_outcomes(alloc: Global, out: &mut Vec<u8>, outcomes: &[StepOutcome]) -> Result<(), NoMemory>
+fn push_outcomes(out: &mut Vec<u8>, outcomes: &[StepOutcome]) -> Result<(), NoMemory>
     ensures { OnOk result (out.new.items ≡ out.old.items ++ outcomes_text outcomes.now) }
 {
     match outcomes {
         [] => Ok(()),
         [first, more @ ..] => {
-            push_outcome(alloc, out, *first)?;
-            push_later(alloc, out, more)
+            push_outcome(out, *first)?;
+            push_later(out, more)
         }
     }
 }
 
 // Puts what further single steps did at the end, each behind a comma.
 #[tactic(auto, using(std::proofs::Common::append_assoc))]
-fn push_later(alloc: Global, out: &mut Vec<u8>, outcomes: &[StepOutcome]) -> Result<(), NoMemory>
+fn push_later(out: &mut Vec<u8>, outcomes: &[StepOutcome]) -> Result<(), NoMemory>
     ensures { OnOk result (out.new.items ≡ out.old.items ++ later_text outcomes.now) }
 {
     for outcome in outcomes {
         push_text(out, ", ")?;
-        push_outcome(alloc, out, *outcome)?;
+        push_outcome(out, *outcome)?;
     }
     Ok(())
 }
 
 /// Puts the text of a reply at the end.
 #[tactic(auto, using(std::proofs::Common::append_assoc), unfolding(crate::specs::Texts::reply_text))]
-pub(crate) fn push_reply(alloc: Global, out: &mut Vec<u8>, reply: &Reply) -> Result<(), NoMemory>
+pub(crate) fn push_reply(out: &mut Vec<u8>, reply: &Reply) -> Result<(), NoMemory>
     ensures { OnOk result (out.new.items ≡ out.old.items ++ reply_text reply.now) }
 {
     match reply {
         Reply::Done => push_text(out, "ok"),
-        Reply::Inode(object) => push_named(alloc, out, "inode ", (*object).into()),
-        Reply::Fs(fs) => push_named(alloc, out, "fs ", (*fs).into()),
-        Reply::Mount(mount) => push_named(alloc, out, "mount ", (*mount).into()),
-        Reply::Group(group) => push_named(alloc, out, "group ", (*group).into()),
+        Reply::Inode(object) => push_named(out, "inode ", (*object).into()),
+        Reply::Fs(fs) => push_named(out, "fs ", (*fs).into()),
+        Reply::Mount(mount) => push_named(out, "mount ", (*mount).into()),
+        Reply::Group(group) => push_named(out, "group ", (*group).into()),
         Reply::Bytes(bytes) => {
             push_text(out, "bytes ")?;
             write_bytes(out, bytes.as_slice())
         }
         Reply::Refused(refusal) => push_text(out, errno_name(*refusal)),
-        Reply::Reclaimed(marks) => push_named(alloc, out, "reclaimed ", *marks),
-        Reply::Out(outcomes) => push_outcomes(alloc, out, outcomes.as_slice()),
+        Reply::Reclaimed(marks) => push_named(out, "reclaimed ", *marks),
+        Reply::Out(outcomes) => push_outcomes(out, outcomes.as_slice()),
     }
 }

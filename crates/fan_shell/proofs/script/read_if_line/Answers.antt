@@ -1,5 +1,4 @@
 use Rattle.std.proofs.Common.{ap, ◌∙◌}
-use Rattle.fan_script.specs.declared.line.Line.{Line}
 use Rattle.fan_script.proofs.LineLemmas.{line_from_found}
 use Rattle.fan_shell.specs.Playing.{if_built, taken_at}
 use Rattle.fan_shell.proofs.script.read_if_line.Goals as goal
