@@ -1,0 +1,54 @@
+// What a group is told of a happening: fanotify(7).
+ghost use Rattle.std.specs.Prelude.{◌≡◌};
+ghost use Rattle.fan_event.specs.Events.{event_for, with_bits};
+
+use super::target::Target;
+use fan_bits::{Happening, InitWords};
+
+/// An event for one group.
+#[derive(Debug, PartialEq, Eq, Drop)]
+pub struct Event {
+    /// The bits that happened: FAN_OPEN and the like.
+    pub bits: u32,
+    /// Whether the object is a directory.
+    pub ondir: bool,
+    /// The process, or the thread in a group with FAN_REPORT_TID.
+    pub who: u32,
+    /// Whether it is a permission event.
+    pub perm: bool,
+    /// The object.
+    pub target: Target,
+}
+
+impl Event {
+    /// Takes further bits that happened. Nothing else of it changes.
+    pub fn take_bits(&mut self, bits: u32)
+        ensures { self.new ≡ with_bits bits self.old }
+    {
+        self.bits |= bits;
+    }
+}
+
+/// What a group with the flags `init` is told of a happening: `bits` of it, done by the process
+/// `pid` in its thread `tid`. It is a permission event if `perm` holds.
+pub fn event_for(
+    init: InitWords,
+    happening: &Happening,
+    bits: u32,
+    pid: u32,
+    tid: u32,
+    perm: bool,
+) -> Event
+    ensures { result ≡ event_for init.bits happening.now bits pid tid perm }
+{
+    Event {
+        bits,
+        ondir: happening.ondir,
+        who: if init.reports_tid() { tid } else { pid },
+        perm,
+        target: Target::Fd {
+            mount: happening.place.mount,
+            inode: happening.place.inode,
+        },
+    }
+}

@@ -1,0 +1,67 @@
+// The name of an entry in a directory.
+ghost use Rattle.std.specs.Prelude.{◌≡◌, IfOk, nat_eq};
+ghost use Rattle.std.specs.Cmp.{partial_equiv_from_equiv};
+ghost use Rattle.std.specs.Cmp.Lexicographic.{nat_list_eq_equiv, pointwise};
+ghost use Rattle.fan_event.specs.Names.{IsName};
+
+use fan_io::{Items, NoMemory};
+use std::alloc::Global;
+use std::marker::Model;
+
+/// A name: 1 to 255 bytes, none of them 0. Contracts see the list of its bytes.
+#[derive(Debug, Drop)]
+pub struct Name {
+    bytes: Items<u8>,
+}
+
+impl Model for Name {
+    ghost use Rattle.std.specs.Prelude.{ℕ, List};
+    ghost use Rattle.std.specs.Coded.{coded_list, coded_ℕ};
+    ghost use Rattle.fan_event.specs.Names.{IsName};
+
+    ghost Value = { List ℕ };
+
+    ghost coded = { coded_list coded_ℕ };
+
+    ghost view = { λ n. n.bytes };
+
+    ghost invariant = { λ n. IsName n.bytes };
+}
+
+impl Name {
+    /// The name with these bytes.
+    ///
+    /// # Errors
+    /// `NoMemory` if no memory was found for a copy of them.
+    pub fn of(alloc: Global, bytes: &[u8]) -> Result<Name, NoMemory>
+        requires { IsName bytes.now }
+        ensures { IfOk result (λ name. name ≡ bytes.now) }
+    {
+        let copy = Vec::from_slice(alloc, bytes)?;
+        Ok(Name {
+            bytes: Items::from_vec(copy),
+        })
+    }
+
+    /// Its bytes.
+    pub fn bytes(&self) -> &[u8]
+        ensures value { result.now ≡ self.now }
+        ensures whole { IsName self.now }
+    {
+        self.bytes.as_slice()
+    }
+}
+
+impl PartialEq for Name {
+    ghost eq = { pointwise nat_eq };
+
+    ghost laws = { partial_equiv_from_equiv nat_list_eq_equiv };
+
+    fn eq(&self, other: &Name) -> bool {
+        self.bytes() == other.bytes()
+    }
+}
+
+impl Eq for Name {
+    ghost laws = { nat_list_eq_equiv };
+}
