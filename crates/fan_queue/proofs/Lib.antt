@@ -1,0 +1,4 @@
+pub mod QueueLemmas
+mod ChangeLemmas
+mod KeptLemmas
+mod TakerLemmas

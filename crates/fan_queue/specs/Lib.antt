@@ -1,0 +1,5 @@
+pub mod QueueState
+pub mod Queue
+pub mod Queued
+pub mod Buckets
+pub mod Kept

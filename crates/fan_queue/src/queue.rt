@@ -1,0 +1,234 @@
+// The queue itself.
+ghost use Rattle.std.specs.Prelude.{◌≡◌, ◌≢◌, ℕ, ◌<◌, ◌≤◌, ◌^◌, ◌↔◌, IsTrue, true, [], None, Some, Ok, IfNone, IfOk, IfSome, OnErr, OnOk, find, if◌then◌else◌, length, position, slice_get};
+ghost use Rattle.std.specs.Option.{option_copied, option_map};
+ghost use Rattle.fan_lists.specs.First.{change_first};
+ghost use Rattle.fan_queue.specs.QueueState.{new_queue};
+ghost use Rattle.fan_queue.specs.Queue.{is_full, is_lost, merged, put, put_event, put_lost, queued, taken, takes};
+ghost use Rattle.fan_queue.specs.Queued.{CanBeQueued, IsQueue};
+
+use super::buckets::{BucketKey, bucket_of, forget, note};
+use super::entry::{Body, Entry, Put};
+use super::taker::taker;
+use fan_event::Event;
+use fan_io::NoMemory;
+use fan_map::Map;
+use std::alloc::Global;
+use std::collections::VecDeque;
+use std::marker::Model;
+
+/// The queue of a group: entries that wait to be read.
+///
+/// Contracts see its limit, the list of its entries from the front, and the number of the next.
+#[derive(Drop)]
+pub struct Queue {
+    alloc: Global,
+    // How many entries fill it, if it has a limit.
+    limit: Option<u32>,
+    // The entries, by their numbers: each has the number after that of the one before it.
+    entries: VecDeque<Entry>,
+    // The key of each entry that may take bits: those with one hash are a bucket.
+    buckets: Map<BucketKey, ()>,
+    // The number of the lost entry, if it is queued.
+    lost: Option<u64>,
+    // The number of the next entry, from 1.
+    next_entry: u64,
+}
+
+impl Model for Queue {
+    ghost use Rattle.fan_queue.specs.QueueState.{QueueState};
+    ghost use Rattle.fan_queue.specs.Kept.{IsKept};
+
+    ghost Value = { QueueState };
+
+    ghost view = { λ q. record {
+      limit = q.limit;
+      entries = q.entries.items;
+      next_entry = q.next_entry;
+    } };
+
+    ghost invariant = { λ q. IsKept q.entries.items q.buckets.entries q.lost q.next_entry };
+}
+
+impl Queue {
+    /// A queue with nothing in it. At `limit` entries it is full, and the lost entry stands for further
+    /// events; with no limit it is never full. Takes no memory.
+    #[tactic(auto, unfolding(crate::specs::QueueState::new_queue))]
+    pub fn new(alloc: Global, limit: Option<u32>) -> Queue
+        ensures { result ≡ new_queue limit }
+    {
+        Queue {
+            alloc,
+            limit,
+            entries: VecDeque::new(alloc),
+            buckets: Map::new(alloc),
+            lost: None,
+            next_entry: 1,
+        }
+    }
+
+    /// How many entries are queued.
+    pub fn len(&self) -> usize
+        ensures count { result ≡ length self.now.entries }
+        ensures whole { IsQueue self.now }
+    {
+        self.entries.len()
+    }
+
+    /// Whether nothing is queued.
+    pub fn is_empty(&self) -> bool
+        ensures { IsTrue result ↔ (self.now.entries ≡ []) }
+    {
+        self.entries.is_empty()
+    }
+
+    /// The number of the next entry. The first is 1.
+    pub fn next_entry(&self) -> u64
+        ensures { result ≡ self.now.next_entry }
+    {
+        self.next_entry
+    }
+
+    /// The entry at the front.
+    pub fn front(&self) -> Option<&Entry>
+        ensures { option_copied result ≡ slice_get self.now.entries 0 }
+    {
+        self.entries.front()
+    }
+
+    /// The entry at an index, from 0 at the front.
+    pub fn get(&self, index: usize) -> Option<&Entry>
+        ensures { option_copied result ≡ slice_get self.now.entries index }
+    {
+        self.entries.get(index)
+    }
+
+    /// Takes the entry at the front away. Allocates nothing.
+    pub fn take(&mut self) -> Option<Entry>
+        ensures some { IfSome result (λ entry. taken self.old ≡ Some (entry, self.new)) }
+        ensures none { IfNone result (taken self.old ≡ None) }
+        ensures same { IfNone result (self.new ≡ self.old) }
+    {
+        let entry = self.entries.pop_front()?;
+        self.lost = lost_without(self.lost, &entry);
+        forget(&mut self.buckets, bucket_of(&entry));
+        Some(entry)
+    }
+
+    /// Takes all entries away, and gives their memory back. Allocates nothing.
+    pub fn clear(&mut self)
+        ensures { self.new ≡ record self.old { entries = [] } }
+    {
+        self.entries = VecDeque::new(self.alloc);
+        self.buckets = Map::new(self.alloc);
+        self.lost = None;
+    }
+
+    /// Puts an event on the queue. A permission event is never merged.
+    ///
+    /// # Errors
+    /// `NoMemory` if the event, or the lost entry, had to be queued and no memory was found for it.
+    #[tactic(auto, unfolding(crate::specs::Queue::put))]
+    pub fn put(&mut self, event: Event) -> Result<Put, NoMemory>
+        requires { self.old.next_entry ≤ 2 ^ 31 }
+        ensures ok { IfOk result (λ outcome. (outcome, self.new) ≡ put self.old event) }
+        ensures never_merged { event.perm ≡ true → (entry : ℕ) → result ≢ Ok (Put.Merged entry) }
+        ensures err { OnErr result (self.new ≡ self.old) }
+    {
+        if self.is_full() {
+            return self.put_lost();
+        }
+        if let Some(entry) = self.merge(&event) {
+            return Ok(Put::Merged { entry });
+        }
+        let entry = self.push(Body::Told(event))?;
+        Ok(Put::Queued { entry })
+    }
+
+    // Whether it is as long as its limit allows.
+    #[tactic(auto, unfolding(crate::specs::Queue::is_full))]
+    fn is_full(&self) -> bool
+        ensures { result ≡ is_full self.now }
+    {
+        match self.limit {
+            Some(limit) => self.entries.len() >= limit as usize,
+            None => false,
+        }
+    }
+
+    // Lets the lost entry stand for an event, and queues it if there is none.
+    fn put_lost(&mut self) -> Result<Put, NoMemory>
+        requires { self.old.next_entry ≤ 2 ^ 31 }
+        ensures ok { IfOk result (λ outcome.
+            (outcome, self.new) ≡ put_lost self.old (find is_lost self.old.entries)) }
+        ensures never_merged { (entry : ℕ) → result ≢ Ok (Put.Merged entry) }
+        ensures err { OnErr result (self.new ≡ self.old) }
+    {
+        if let Some(entry) = self.lost {
+            return Ok(Put::Overflow { entry });
+        }
+        let entry = self.push(Body::Lost)?;
+        Ok(Put::Overflow { entry })
+    }
+
+    // Merges an event into the entry that takes it, and answers the number of this entry.
+    fn merge(&mut self, event: &Event) -> Option<u64>
+        ensures merged { IfSome result (λ entry. (Put.Merged entry, self.new)
+            ≡ put_event self.old event.now (find (takes event.now) self.old.entries)) }
+        ensures none { IfNone result (find (takes event.now) self.old.entries ≡ None) }
+        ensures same { IfNone result (self.new ≡ self.old) }
+    {
+        let index = taker(&self.entries, &self.buckets, self.next_entry, event)?;
+        Some(merge_at(&mut self.entries, index, event))
+    }
+
+    // Queues an entry last, under the next number, and answers this number.
+    #[tactic(auto, unfolding(crate::specs::Queue::queued))]
+    fn push(&mut self, body: Body) -> Result<u64, NoMemory>
+        requires few { self.old.next_entry ≤ 2 ^ 31 }
+        requires fits { CanBeQueued self.old.entries body }
+        ensures number { IfOk result (λ number. number ≡ self.old.next_entry) }
+        ensures ok { OnOk result (self.new ≡ queued self.old body) }
+        ensures err { OnErr result (self.new ≡ self.old) }
+    {
+        self.entries.reserve(1)?;
+        self.buckets.reserve()?;
+        let number = self.next_entry;
+        let entry = Entry { number, body };
+        self.lost = lost_with(self.lost, &entry);
+        note(&mut self.buckets, bucket_of(&entry));
+        self.entries.push_back_reserved(entry);
+        self.next_entry += 1;
+        Ok(number)
+    }
+}
+
+// The first entry that takes the bits of an event takes them. Its number.
+fn merge_at(entries: &mut VecDeque<Entry>, index: usize, event: &Event) -> u64
+    requires { position (takes event.now) entries.old.items ≡ Some index }
+    ensures number { option_map (λ entry. entry.number) (find (takes event.now) entries.old.items)
+        ≡ Some result }
+    ensures entries { entries.new.items
+        ≡ change_first (takes event.now) (merged event.now) entries.old.items }
+{
+    let entry = &mut entries[index];
+    entry.merge(event);
+    entry.number
+}
+
+// The number of the lost entry, if it is queued, once an entry came.
+fn lost_with(lost: Option<u64>, entry: &Entry) -> Option<u64>
+    ensures { result ≡ (if is_lost entry.now then Some entry.now.number else lost) }
+{
+    if entry.is_lost() {
+        Some(entry.number)
+    } else {
+        lost
+    }
+}
+
+// The number of the lost entry, if it is queued, once an entry went.
+fn lost_without(lost: Option<u64>, entry: &Entry) -> Option<u64>
+    ensures { result ≡ (if is_lost entry.now then None else lost) }
+{
+    if entry.is_lost() { None } else { lost }
+}
