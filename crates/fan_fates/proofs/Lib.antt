@@ -1,0 +1,16 @@
+pub mod Lists
+pub mod Fits
+pub mod History
+pub mod Puts
+pub mod Lifted
+pub mod Lived
+pub mod Coming
+pub mod Seen
+pub mod OneFate
+pub mod Reading
+pub mod CallForms
+pub mod Limits
+pub mod Answering
+pub mod Keys
+pub mod ReadFirst
+pub mod Taking

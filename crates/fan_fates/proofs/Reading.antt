@@ -1,0 +1,192 @@
+-- The bytes of a read, by the fates of the events in it.
+use Rattle.std.proofs.Common.{◌≡◌, ◌∙◌, ℕ, ◌==◌, Bool, true, false, cond, List, [], ◌∷◌, ◌++◌, append-nil, Option, Some, None, Result, Ok, Err, length, map, refl, ap, sym, subst, nat_lt}
+use Rattle.std.proofs.lemmas.Bool.{eq-eqb}
+use Rattle.std.proofs.lemmas.List.Elements.{All-head, All-tail}
+use Rattle.std.specs.Prelude.{All, ℤ, pos, negsuc}
+use Rattle.fan_bits.specs.declared.errno.Errno.{Errno}
+use Rattle.fan_bits.specs.declared.errno.Errno.TheVariants as errno
+use Rattle.fan_bits.specs.MarkWords.{overflow_bit}
+use Rattle.fan_fates.specs.Calls.{Call, Deed, Reads, called, deeds, gone, left_by}
+use Rattle.fan_fates.specs.Bits.{AreRecords, HasBits, HasBitsIn, mask_of, with_all}
+use Rattle.fan_fates.specs.Fates.{left, lost, told}
+use Rattle.fan_fates.specs.Steps.{calls_at, deeds_at, deeds_by, deeds_in}
+use Rattle.fan_fates.proofs.CallForms.{Front, front_of, rest_left}
+use Rattle.fan_fates.proofs.History.{History, gone_is, overflows}
+use Rattle.fan_fates.proofs.Lists.{All-first, All-second}
+use Rattle.fan_fates.proofs.Lived.{lived}
+use Rattle.fan_laws.specs.Whole.{numbers_in}
+use Rattle.fan_listener.specs.declared.event.Event.{Event}
+use Rattle.fan_listener.specs.declared.queue.Body.{Body}
+use Rattle.fan_listener.specs.declared.queue.Body.TheVariants as bodies
+use Rattle.fan_listener.specs.declared.queue.Entry.{Entry}
+use Rattle.fan_listener.specs.Groups.{listener_at, outcome_in, read_from, tried_at}
+use Rattle.fan_listener.specs.ListenerState.{ListenerState}
+use Rattle.fan_listener.specs.Queue.{is_overflow}
+use Rattle.fan_listener.specs.Records.{fd_after, front_read, front_within, read_front, read_of, record_bytes, record_len, record_of, records}
+use Rattle.fan_machine.specs.Groups.{group_read}
+use Rattle.fan_machine.specs.Next.{after, attempted, next}
+use Rattle.fan_machine.specs.Outcome.{◌>>=◌, answers, settled}
+use Rattle.fan_machine.specs.World.{WorldState, initial_world}
+use Rattle.fan_script.specs.declared.reply.Reply.{Reply}
+use Rattle.fan_script.specs.declared.reply.Reply.TheVariants as replies
+use Rattle.fan_script.specs.declared.step.Step.{Step}
+use Rattle.fan_script.specs.declared.step.Step.TheVariants as steps
+
+-- ---- the records of entries
+
+mask_some : (some : List Event) → (some ≡ [] → ⊥) → mask_of some ≡ with_all 0 some
+mask_some [] some = absurd (some refl)
+mask_some (event ∷ more) some = refl
+
+-- one record is spelled with the bits that fates gave its entry
+record Spelled (mask fd : ℕ) (body : Body) : Type 0 where
+  pub its_fd : ℤ
+  pub pid : ℕ
+  pub is : record_of fd body ≡ record_bytes mask its_fd pid
+
+spelled : (told lost : List Event) (fd : ℕ) (body : Body) → HasBits told lost body
+    → Spelled (mask_of told) fd body
+spelled told lost fd (bodies.Told event) has = record {
+  its_fd = pos fd;
+  pid = event.who;
+  is = ap (λ (mask : ℕ). record_bytes mask (pos fd) event.who) (has.bits ∙ sym (mask_some told has.some));
+}
+spelled told lost fd bodies.Overflow has = record {
+  its_fd = negsuc 0;
+  pid = 0;
+  is = ap (λ (some : List Event). record_bytes (mask_of some) (negsuc 0) 0) (sym has.0);
+}
+
+-- an overflow entry's bits are its own
+pub mask_overflows : (past : List Deed) (entry : Entry) → HasBitsIn past entry → is_overflow entry ≡ true
+    → mask_of (told past entry.number) ≡ overflow_bit
+mask_overflows past entry has is =
+    let none =
+    subst (HasBits (told past entry.number) (lost past entry.number)) (overflows entry.body is) has in
+    ap mask_of none.0
+
+-- the masks of entries by the fates so far
+abbrev masks : List Deed → List Entry → List ℕ
+masks past entries = map (λ number. mask_of (told past number)) (numbers_in entries)
+
+-- and so are those of a front
+front_spelled : (past : List Deed) (fd : ℕ) (front : List Entry) → All (HasBitsIn past) front
+    → AreRecords (masks past front) (records fd front)
+front_spelled past fd [] each = refl
+front_spelled past fd (entry ∷ front) each =
+    let its = spelled (told past entry.number) (lost past entry.number) fd entry.body
+    (All-head (HasBitsIn past) entry front each) in
+    let rest = records (fd_after fd entry.body) front in (
+      its.its_fd,
+      its.pid,
+      rest,
+      ap (λ bytes. bytes ++ rest) its.is,
+      front_spelled past (fd_after fd entry.body) front (All-tail (HasBitsIn past) entry front each),
+    )
+
+-- ---- the read
+
+-- a read that gave these bytes took the records of a front
+record Gave (listener : ListenerState) (size : ℕ) (given : List ℕ × ListenerState) : Type 0 where
+  pub front : List Entry
+  pub its : Front listener.queue front
+  pub is : front_read listener front ≡ given
+
+gave : (listener : ListenerState) (size : ℕ) (given : List ℕ × ListenerState)
+    → read_of listener size ≡ Ok given
+    → Gave listener size given
+unfolding read_of
+gave listener size given done =
+    by listener.closed (length listener.queue == 0) (nat_lt size record_len) done
+  where
+    by : (a b c : Bool) → cond {A = Result (List ℕ × ListenerState) Errno} a (Err errno.Ebadf)
+        (cond {A = Result (List ℕ × ListenerState) Errno} b (Err errno.Eagain)
+        (cond {A = Result (List ℕ × ListenerState) Errno} c (Err errno.Einval)
+        (Ok (front_read listener (front_within size listener.queue))))) ≡ Ok given → Gave listener size given
+    by true b c is = absurd cc
+    by false true c is = absurd cc
+    by false false true is = absurd cc
+    by false false false is = record {
+      front = front_within size listener.queue;
+      its = front_of size listener.queue;
+      is = cc;
+    }
+
+-- the listener that gave them
+record GaveBytes (world : WorldState) (group size : ℕ) (bytes : List ℕ) : Type 0 where
+  pub listener : ListenerState
+  pub given : List ℕ × ListenerState
+  pub there : listener_at world.groups group ≡ Some listener
+  pub read : read_of listener size ≡ Ok given
+  pub those : given.0 ≡ bytes
+
+-- what is answered, by what was tried
+abbrev pub reply_to : WorldState → Result (List ℕ × List ListenerState) Errno → Reply
+reply_to world tried =
+    (settled world (tried
+    >>= λ read. answers (replies.Bytes read.0) (record world { groups = read.1 }))).reply
+
+gave_bytes : (world : WorldState) (group size : ℕ) (bytes : List ℕ)
+    → (next world (steps.Read group size)).reply ≡ replies.Bytes bytes → GaveBytes world group size bytes
+unfolding next attempted group_read read_from
+gave_bytes world group size bytes said = by (listener_at world.groups group) refl said
+  where
+    by_read : (listener : ListenerState) → listener_at world.groups group ≡ Some listener
+        → (tried : Result (List ℕ × ListenerState) Errno) → read_of listener size ≡ tried
+        → reply_to world (outcome_in world.groups group tried) ≡ replies.Bytes bytes
+        → GaveBytes world group size bytes
+    by_read listener there (Err refusal) is said = absurd cc
+    by_read listener there (Ok given) is said =
+        record { listener = listener; given = given; there = there; read = is; those = cc }
+
+    by : (found : Option ListenerState) → listener_at world.groups group ≡ found
+        → reply_to world (tried_at (λ (l : ListenerState). read_of l size) world.groups group found)
+        ≡ replies.Bytes bytes
+        → GaveBytes world group size bytes
+    by None none said = absurd cc
+    by (Some listener) there said = by_read listener there (read_of listener size) refl said
+
+-- the entries that leave by a read
+left_by_read : (world : WorldState) (group size : ℕ) (listener : ListenerState)
+    → listener_at world.groups group ≡ Some listener
+    → left (deeds_by world (steps.Read group size) group)
+    ≡ gone listener.queue (called listener (Reads size)).queue
+unfolding deeds
+left_by_read world group size listener there =
+    ap (λ found. left (deeds_at found (calls_at world (steps.Read group size) group found))) there
+    ∙ ap (λ b. left (deeds listener (cond {A = List Call} b (Reads size ∷ []) []))) (eq-eqb group group refl)
+    ∙ append-nil (gone listener.queue (called listener (Reads size)).queue)
+
+-- what is left of the queue
+queue_left : (listener : ListenerState) (front : List Entry) (its : Front listener.queue front)
+    → (read_front listener front).queue ≡ its.rest
+unfolding read_front
+queue_left listener front its = rest_left listener.queue front its
+
+pub read_spelled : (before : List Step) (group size : ℕ) (bytes : List ℕ) →
+    let world = after initial_world before in
+    let past = deeds_in group initial_world before in
+    (next world (steps.Read group size)).reply ≡ replies.Bytes bytes →
+    AreRecords (masks past (left (deeds_by world (steps.Read group size) group))) bytes
+read_spelled before group size bytes said =
+    let world = after initial_world before in
+    let past = deeds_in group initial_world before in
+    let its = gave_bytes world group size bytes said in
+    let listener = its.listener in
+    let it = gave listener size its.given its.read in
+    let now : called listener (Reads size) ≡ read_front listener it.front =
+    ap (left_by listener) its.read ∙ ap (λ (one : List ℕ × ListenerState). one.1) (sym it.is) in
+    let queue : (called listener (Reads size)).queue ≡ it.its.rest =
+    ap (λ (l : ListenerState). l.queue) now ∙ queue_left listener it.front it.its in
+    let went : left (deeds_by world (steps.Read group size) group) ≡ it.front =
+    left_by_read world group size listener its.there ∙ ap (gone listener.queue) queue
+    ∙ gone_is listener.queue it.front it.its.rest it.its.whole in
+    let run = lived before group in
+    let history : History past listener =
+    subst (History past) (sym (run.own listener its.there)) run.history in
+    let bits = All-first (HasBitsIn past) it.front it.its.rest (subst (All (HasBitsIn past)) it.its.whole
+    (All-second (HasBitsIn past) (left past) listener.queue history.fits.bits)) in
+    let spelled : records listener.next_fd it.front ≡ bytes =
+    ap (λ (one : List ℕ × ListenerState). one.0) it.is ∙ its.those in
+    subst (λ entries. AreRecords (masks past entries) bytes) (sym went)
+    (subst (AreRecords (masks past it.front)) spelled (front_spelled past listener.next_fd it.front bits))
