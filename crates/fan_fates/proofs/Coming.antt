@@ -19,7 +19,6 @@ use Rattle.fan_listener.specs.Groups.{is_open, listener_at}
 use Rattle.fan_listener.specs.ListenerState.{ListenerState}
 use Rattle.fan_listener.specs.Queue.{put}
 use Rattle.fan_machine.specs.Accesses.{access_of}
-use Rattle.fan_machine.specs.Groups.{queue_limit}
 use Rattle.fan_machine.specs.Next.{after, next}
 use Rattle.fan_machine.specs.World.{WorldState, initial_world}
 use Rattle.fan_script.specs.declared.step.Step.{Step}
@@ -198,13 +197,11 @@ module _ (before : List Step) (step : Step) (group : ℕ) (event : Event) (fate 
   -- an event is lost only at the limit
   pub came_full : is_lost fate ≡ true → IsFull (after initial_world before) group
   came_full is =
-      let its = lived before group in
-      let full = put_full the_put.listener event (ap is_lost the_put.became ∙ is) in
-      let limit : the_put.listener.limit ≡ queue_limit = its.limit the_put.listener the_put.there in record {
+      let full = put_full the_put.listener event (ap is_lost the_put.became ∙ is) in record {
         listener = the_put.listener;
         there = the_put.there;
         limited = full.limited;
-        full = omega (arith, limit, full.full);
+        full = full.full;
       }
 
 -- ---- the turn of an event

@@ -19,7 +19,7 @@ use Rattle.fan_listener.specs.Queue.{put}
 use Rattle.fan_listener.specs.Records.{read_of}
 use Rattle.fan_listener.specs.Responses.{answer_of, closed_of, written}
 use Rattle.fan_machine.specs.Accesses.{access_of, advanced, went_on}
-use Rattle.fan_machine.specs.Groups.{group_closed, group_read, group_written, queue_limit}
+use Rattle.fan_machine.specs.Groups.{group_closed, group_read, group_written}
 use Rattle.fan_machine.specs.Next.{after, attempted, next}
 use Rattle.fan_machine.specs.Outcome.{Outcome, ◌>>=◌, answers as replied, found_or, settled}
 use Rattle.fan_machine.specs.World.{WorldState, initial_world, with_change}
@@ -279,7 +279,7 @@ quiet_form world group listener step outcome (was_read other size read is) quiet
 quiet_form world group listener step outcome (was_written other bytes given is) quiet there = absurd quiet
 quiet_form world group listener step outcome (was_closed other closed is) quiet there = absurd quiet
 quiet_form world group listener step outcome (was_made flags few) quiet there =
-    found_pushed world.groups group listener (new_listener flags queue_limit) there
+    found_pushed world.groups group listener (new_listener flags world.limit) there
 quiet_form world group listener step outcome form quiet there = there
 
 quiet_lift : (world : WorldState) (group : ℕ) (listener : ListenerState) (step : Step) → Quiet step
@@ -333,15 +333,15 @@ pushed_none (x ∷ xs) (suc i) new none = pushed_none xs i new none
 -- what a step leaves of a group that isn't there
 pub data Comes (groups : List ListenerState) (group : ℕ) : Type 0 where
   away : listener_at groups group ≡ None → Comes groups group
-  new_one : (flags : ℕ) → listener_at groups group ≡ Some (new_listener flags queue_limit)
+  new_one : (flags limit : ℕ) → listener_at groups group ≡ Some (new_listener flags limit)
       → Comes groups group
 
-none_pushed : (groups : List ListenerState) (group flags : ℕ) → listener_at groups group ≡ None
-    → Comes (groups ++ new_listener flags queue_limit ∷ []) group
-none_pushed groups zero flags none = away refl
-none_pushed groups (suc index) flags none =
-    ⊎_elim (λ none. away none) (λ its. new_one flags its)
-    (pushed_none groups index (new_listener flags queue_limit) none)
+none_pushed : (groups : List ListenerState) (group flags limit : ℕ) → listener_at groups group ≡ None
+    → Comes (groups ++ new_listener flags limit ∷ []) group
+none_pushed groups zero flags limit none = away refl
+none_pushed groups (suc index) flags limit none =
+    ⊎_elim (λ none. away none) (λ its. new_one flags limit its)
+    (pushed_none groups index (new_listener flags limit) none)
 
 none_with : (groups : List ListenerState) (group other : ℕ) (old new : ListenerState)
     → listener_at groups group ≡ None → listener_at groups other ≡ Some old
@@ -357,7 +357,7 @@ none_moves : (groups new : List ListenerState) (group : ℕ) → Moves groups ne
 none_moves groups new group (one_called _ stays) none = away none
 none_moves groups new group (one_called _ (calls other listener given is call)) none =
     none_with groups group other listener given none is
-none_moves groups new group (opens flags few) none = none_pushed groups group flags none
+none_moves groups new group (opens flags limit few) none = none_pushed groups group flags limit none
 none_moves groups new group (closes other listener is) none =
     none_with groups group other listener (closed_of listener) none is
 
@@ -416,7 +416,7 @@ runs (step ∷ more) group world listener there =
 pub data Ran (group : ℕ) (world : WorldState) (run : List Step) : Type 0 where
   absent : listener_at (after world run).groups group ≡ None → calls_in group world run ≡ []
       → deeds_in group world run ≡ [] → Ran group world run
-  since : (flags : ℕ) → Runs group world run (new_listener flags queue_limit) → Ran group world run
+  since : (flags limit : ℕ) → Runs group world run (new_listener flags limit) → Ran group world run
 
 module _ (step : Step) (more : List Step) (group : ℕ) (world : WorldState)
     (none : listener_at world.groups group ≡ None) where
@@ -435,19 +435,19 @@ module _ (step : Step) (more : List Step) (group : ℕ) (world : WorldState)
   ran_more : Ran group (next world step).world more → Ran group world (step ∷ more)
   ran_more (absent still no_calls no_deeds) =
       absent still (calls_skip ∙ no_calls) (deeds_skip ∙ no_deeds)
-  ran_more (since flags its) =
-      since flags (record {
-        becomes = subst (Becomes (after world (step ∷ more)).groups group (new_listener flags queue_limit))
+  ran_more (since flags limit its) =
+      since flags limit (record {
+        becomes = subst (Becomes (after world (step ∷ more)).groups group (new_listener flags limit))
             (sym calls_skip) its.becomes;
-        does = deeds_skip ∙ its.does ∙ ap (deeds (new_listener flags queue_limit)) (sym calls_skip);
+        does = deeds_skip ∙ its.does ∙ ap (deeds (new_listener flags limit)) (sym calls_skip);
       })
 
   ran_by : Comes (next world step).world.groups group
       → (listener_at (next world step).world.groups group ≡ None → Ran group (next world step).world more)
       → Ran group (next world step).world more
   ran_by (away still) later = later still
-  ran_by (new_one flags is) later =
-      since flags (runs more group (next world step).world (new_listener flags queue_limit) is)
+  ran_by (new_one flags limit is) later =
+      since flags limit (runs more group (next world step).world (new_listener flags limit) is)
 
 pub ran : (run : List Step) (group : ℕ) (world : WorldState) → listener_at world.groups group ≡ None
     → Ran group world run

@@ -14,7 +14,6 @@ use Rattle.fan_listener.specs.declared.queue.Put.TheVariants as puts
 use Rattle.fan_listener.specs.Groups.{listener_at}
 use Rattle.fan_listener.specs.ListenerState.{ListenerState, new_listener}
 use Rattle.fan_machine.specs.Accesses.{access_of}
-use Rattle.fan_machine.specs.Groups.{queue_limit}
 use Rattle.fan_machine.specs.Next.{next}
 use Rattle.fan_machine.specs.World.{WorldState}
 use Rattle.fan_script.specs.declared.reply.Reply.TheVariants as replies
@@ -65,7 +64,7 @@ pub record IsFull (world : WorldState) (group : ℕ) : Type 0 where
   pub listener : ListenerState
   pub there : listener_at world.groups group ≡ Some listener
   pub limited : occurs listener.flags unlimited_queue ≡ false
-  pub full : queue_limit ≤ length listener.queue
+  pub full : listener.limit ≤ length listener.queue
 
 -- a step may take entries from a queue: a read of the group that gives bytes, or its close
 abbrev pub Takes : WorldState → Step → ℕ → Type 0
@@ -74,8 +73,8 @@ Takes world step group =
     × ((next world step).reply ≡ replies.Bytes bytes))
     ⊎ ((step ≡ steps.Close group) × ((next world step).reply ≡ replies.Done))
 
--- a listener is what calls made of a new one with its flags; without a listener there were no calls
+-- a listener is what calls made of a new one with its flags and limit; without a listener there were no calls
 abbrev pub IsMadeBy : List Call → Option ListenerState → Type 0
 IsMadeBy calls None = calls ≡ []
 IsMadeBy calls (Some listener) =
-    listener ≡ after_calls (new_listener listener.flags queue_limit) calls
+    listener ≡ after_calls (new_listener listener.flags listener.limit) calls

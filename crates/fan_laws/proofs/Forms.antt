@@ -18,7 +18,7 @@ use Rattle.fan_listener.specs.declared.answers.Answered.{Answered}
 use Rattle.fan_machine.specs.Accesses.{accesses_after, access_of, advanced, begins, begun, first_change, op_of}
 use Rattle.fan_machine.specs.Batches.{batch_of, graced, held, reclaimed, started}
 use Rattle.fan_machine.specs.Files.{entry_made, fs_made, fs_mounted, fs_unmounted, goes_through, made_by, place_in}
-use Rattle.fan_machine.specs.Groups.{group_closed, group_made, group_read, group_written, max_open_groups, queue_limit}
+use Rattle.fan_machine.specs.Groups.{group_closed, group_made, group_read, group_written, limit_set, max_open_groups}
 use Rattle.fan_machine.specs.Marking.{change_for, marked}
 use Rattle.fan_machine.specs.Next.{attempted, next}
 use Rattle.fan_machine.specs.Outcome.{Attempt, Outcome, ◌>>=◌, found_or, refuse_unless, settled}
@@ -115,10 +115,12 @@ pub data Form (world : WorldState) : Step → Outcome → Type 0 where
       → list_any (goes_through at.mount) world.accesses ≡ false → unmounted world.mounts at.mount ≡ Ok left
       → Form world (steps.Umount path)
       (told replies.Done (with_change (DropObject at.mount) (record world { mounts = left })))
+  limit_was_set : (entries : ℕ)
+      → Form world (steps.Limit entries) (told replies.Done (record world { limit = entries }))
   was_made : (flags : ℕ) → nat_lt (count_by is_open world.groups) max_open_groups ≡ true
       → Form world (steps.Init flags)
       (told (replies.Group (length world.groups + 1))
-      (record world { groups = world.groups ++ new_listener flags queue_limit ∷ [] }))
+      (record world { groups = world.groups ++ new_listener flags world.limit ∷ [] }))
   was_marked : (group flags mask : ℕ) (path : List ℕ) (change : Change)
       → change_for world group flags mask path ≡ Ok change
       → Form world (steps.Mark group flags mask path) (told replies.Done (with_change change world))
@@ -202,14 +204,14 @@ grace_form world =
 
 -- an attempt at a step is of the step's form
 attempt_form : (world : WorldState) (step : Step) → Attempts world step (attempted world step)
-unfolding attempted entry_made fs_made fs_mounted fs_unmounted group_made marked begun advanced group_read
+unfolding attempted entry_made fs_made fs_mounted fs_unmounted limit_set group_made marked begun advanced group_read
     group_written group_closed graced
 attempt_form world (steps.MkFile path) = file_form world path (reverse (names_of path))
 attempt_form world (steps.MkDir path) = dir_form world path (reverse (names_of path))
 attempt_form world steps.MkFs = search (done_does, fs_was_made)
 attempt_form world (steps.Mount fs path) = search (unless_does, done_does, was_mounted) depth 9
 attempt_form world (steps.Umount path) = search (unless_does, done_does, not_true, was_unmounted) depth 9
-attempt_form world (steps.Limit entries) = tt
+attempt_form world (steps.Limit entries) = search (unless_does, limit_was_set)
 attempt_form world (steps.Init flags) = search (unless_does, was_made) depth 9
 attempt_form world (steps.Mark group flags mask path) = search (done_does, was_marked)
 attempt_form world (steps.Begin number pid tid word path second) =

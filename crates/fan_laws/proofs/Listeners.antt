@@ -29,7 +29,7 @@ use Rattle.fan_listener.specs.ListenerState.{ListenerState, new_listener}
 use Rattle.fan_listener.specs.Queue.{is_full, is_overflow, merged, put, put_event, put_overflow, queued, takes}
 use Rattle.fan_listener.specs.Records.{front_read, front_within, read_front, read_of, record_len}
 use Rattle.fan_listener.specs.Responses.{answer_of, answered, closed_of, fd_in, responded, value_in, verdict, waiting_under, written}
-use Rattle.fan_machine.specs.Groups.{max_open_groups, queue_limit}
+use Rattle.fan_machine.specs.Groups.{max_open_groups}
 use Rattle.fan_laws.specs.Whole.{IsOpenOf, IsQueue, numbers_in}
 use Rattle.fan_laws.proofs.Moves.{Called, Calls, Moves, called, calls, closes, looked_for, open_is, opened_is, opens, put_one, read_some, stays, wrote}
 
@@ -293,8 +293,8 @@ moves_numbered groups new (called _ stays) each = each
 moves_numbered groups new (called _ (calls group old given is call)) each =
     All-with Numbered groups group given each
     (called_numbered old given (All-listener Numbered groups group old each is) call)
-moves_numbered groups new (opens flags few) each =
-    All-push Numbered groups (new_listener flags queue_limit) each (new_numbered flags queue_limit)
+moves_numbered groups new (opens flags limit few) each =
+    All-push Numbered groups (new_listener flags limit) each (new_numbered flags limit)
 moves_numbered groups new (closes group old is) each =
     All-with Numbered groups group (closed_of old) each (closed_numbered old)
 
@@ -318,9 +318,9 @@ moves_few groups new (called _ (calls group old given is call)) few =
     let leaves = called_leaves old given call in
     let fewer = count_with groups group old given is (λ opened. sym leaves.opened ∙ opened) in
     omega (arith, few, fewer)
-moves_few groups new (opens flags room) few =
+moves_few groups new (opens flags limit room) few =
     let below = ltb-true (count_by is_open groups) max_open_groups room in
-    let one = count_pushed groups flags queue_limit in
+    let one = count_pushed groups flags limit in
     omega (arith, below, one)
 moves_few groups new (closes group old is) few =
     let fewer = count_with groups group old (closed_of old) is (closed_shut old) in

@@ -13,7 +13,7 @@ use Rattle.fan_listener.specs.ListenerState.{ListenerState, new_listener}
 use Rattle.fan_listener.specs.Queue.{put}
 use Rattle.fan_listener.specs.Records.{read_of}
 use Rattle.fan_listener.specs.Responses.{answer_of, closed_of, written}
-use Rattle.fan_machine.specs.Groups.{max_open_groups, queue_limit}
+use Rattle.fan_machine.specs.Groups.{max_open_groups}
 use Rattle.fan_machine.specs.Outcome.{Outcome}
 use Rattle.fan_machine.specs.World.{WorldState}
 use Rattle.fan_script.specs.declared.step.Step.{Step}
@@ -37,8 +37,8 @@ pub data Calls (old : List ListenerState) : List ListenerState → Type 0 where
 -- or a group is made or closed
 pub data Moves (old : List ListenerState) : List ListenerState → Type 0 where
   called : (new : List ListenerState) → Calls old new → Moves old new
-  opens : (flags : ℕ) → nat_lt (count_by is_open old) max_open_groups ≡ true
-      → Moves old (old ++ new_listener flags queue_limit ∷ [])
+  opens : (flags limit : ℕ) → nat_lt (count_by is_open old) max_open_groups ≡ true
+      → Moves old (old ++ new_listener flags limit ∷ [])
   closes : (group : ℕ) (listener : ListenerState) → listener_at old group ≡ Some listener
       → Moves old (with_listener old group (closed_of listener))
 
@@ -174,7 +174,7 @@ closed_is groups group new done = go (open_listener groups group) refl done
 -- any step moves the listeners so
 pub step_moves : (world : WorldState) (step : Step) (outcome : Outcome) → Form world step outcome
     → Moves world.groups outcome.world.groups
-step_moves world step outcome (was_made flags few) = opens flags few
+step_moves world step outcome (was_made flags few) = opens flags world.limit few
 step_moves world step outcome (has_stepped number access is) = called _ (step_calls world.groups access)
 step_moves world step outcome (was_read group size read is) = called _
     (read_calls world.groups group size read is)

@@ -23,7 +23,7 @@ use Rattle.fan_listener.specs.ListenerState.{ListenerState, new_listener}
 use Rattle.fan_listener.specs.Responses.{closed_of}
 use Rattle.fan_machine.specs.Accesses.{first_change}
 use Rattle.fan_machine.specs.Files.{goes_through}
-use Rattle.fan_machine.specs.Groups.{max_open_groups, queue_limit}
+use Rattle.fan_machine.specs.Groups.{max_open_groups}
 use Rattle.fan_machine.specs.Next.{after, next}
 use Rattle.fan_machine.specs.Outcome.{Outcome}
 use Rattle.fan_machine.specs.World.{WorldState, initial_world}
@@ -118,8 +118,8 @@ marks_form world step outcome (was_made flags few) marks = record {
   order = marks.order;
   stand = marks.stand;
   of_groups = All-weaker (λ mark. IsOpenOf world.groups mark.group mark.class)
-      (λ mark. IsOpenOf (world.groups ++ new_listener flags queue_limit ∷ []) mark.group mark.class)
-      (λ mark is. open_pushed world.groups (new_listener flags queue_limit) mark.group mark.class is)
+      (λ mark. IsOpenOf (world.groups ++ new_listener flags world.limit ∷ []) mark.group mark.class)
+      (λ mark is. open_pushed world.groups (new_listener flags world.limit) mark.group mark.class is)
       world.marks marks.of_groups;
 }
 marks_form world step outcome (has_stepped number access is) marks =

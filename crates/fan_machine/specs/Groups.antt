@@ -1,21 +1,23 @@
 -- Steps of groups and their listeners: fanotify_init(2), read(2), write(2), close(2).
-use Rattle.std.specs.Prelude.{ℕ, ◌+◌, ◌&&◌, not, nat_lt, List, [], ◌∷◌, ◌++◌, length, count_by}
+use Rattle.std.specs.Prelude.{ℕ, ◌+◌, ◌&&◌, not, nat_le, nat_lt, List, [], ◌∷◌, ◌++◌, length, count_by}
 use Rattle.fan_bits.specs.declared.change.Change.TheVariants.{DropGroup}
 use Rattle.fan_bits.specs.declared.errno.Errno.TheVariants as errno
 use Rattle.fan_bits.specs.Words.{is_init_flags, has_handles}
 use Rattle.fan_listener.specs.Groups.{closed_in, is_open, read_from, written_to}
 use Rattle.fan_listener.specs.ListenerState.{new_listener}
 use Rattle.fan_machine.specs.Outcome.{Attempt, answers, refuse_unless, found_or, ◌>>=◌}
-use Rattle.fan_machine.specs.World.{WorldState, with_change}
+use Rattle.fan_machine.specs.World.{WorldState, max_limit, with_change}
 use Rattle.fan_script.specs.declared.reply.Reply.TheVariants as replies
 
 -- how many groups may be open
 abbrev pub max_open_groups : ℕ
 max_open_groups = 128
 
--- how many entries the queue of a group has at most
-abbrev pub queue_limit : ℕ
-queue_limit = 16384
+-- `limit`: how many entries fill the queue of a group that is made later; EINVAL for a limit that no line has
+unfoldable pub limit_set : WorldState → ℕ → Attempt
+limit_set world entries = do
+  valid ← refuse_unless (nat_le 1 entries && nat_le entries max_limit) errno.Einval
+  answers replies.Done (record world { limit = entries })
 
 -- `init`: EINVAL if the flags are no word, or ask for handles, which aren't built yet; EMFILE if 128 groups are open
 unfoldable pub group_made : WorldState → ℕ → Attempt
@@ -24,7 +26,7 @@ group_made world flags = do
   few ← refuse_unless (nat_lt (count_by is_open world.groups) max_open_groups) errno.Emfile
   answers
       (replies.Group (length world.groups + 1))
-      (record world { groups = world.groups ++ new_listener flags queue_limit ∷ [] })
+      (record world { groups = world.groups ++ new_listener flags world.limit ∷ [] })
 
 -- `read`: EBADF, EAGAIN, EINVAL
 unfoldable pub group_read : WorldState → ℕ → ℕ → Attempt

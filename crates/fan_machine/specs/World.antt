@@ -21,7 +21,7 @@ pub record Batch : Type 0 where
 
 -- the file tree and its mounts; the listeners of the groups, from group 1 on, closed ones among them; the
 -- marks; the retired marks that wait for a batch, and the batch under way; the open accesses by their numbers,
--- and the greatest number that an access had
+-- and the greatest number that an access had; the limit of the queues of groups that are made from now on
 pub record WorldState : Type 0 where
   pub tree : TreeState
   pub mounts : List Mount
@@ -31,8 +31,13 @@ pub record WorldState : Type 0 where
   pub batch : Option Batch
   pub accesses : List (ℕ × AccessState)
   pub last_access : ℕ
+  pub limit : ℕ
 
--- at the start: filesystem 1 with its root, mounted at `/`, and no group
+-- how many entries fill a queue at most
+abbrev pub max_limit : ℕ
+max_limit = 16384
+
+-- at the start: filesystem 1 with its root, mounted at `/`, no group, and the greatest limit
 abbrev pub initial_world : WorldState
 initial_world = record {
   tree = initial_tree;
@@ -43,6 +48,7 @@ initial_world = record {
   batch = None;
   accesses = [];
   last_access = 0;
+  limit = max_limit;
 }
 
 -- marks that are retired now

@@ -20,7 +20,6 @@ is_built_op _ = false
 
 -- the steps that are built
 abbrev pub is_built : Step → Bool
-is_built (steps.Limit entries) = false
 is_built (steps.Init flags) = not (has_any unbuilt_init_flags flags)
 is_built (steps.Begin access pid tid op path second) = is_built_op op
 is_built _ = true

@@ -25,13 +25,12 @@ fn asks_for_handles(flags: u32) -> bool
     fid || dir_fid || name
 }
 
-/// Whether the machine does this step by now. It is false exactly for `limit`, for `init` with a flag that
-/// asks for handles, and for `begin` with another operation than `open` and `write`.
+/// Whether the machine does this step by now. It is false exactly for `init` with a flag that asks for
+/// handles, and for `begin` with another operation than `open` and `write`.
 pub fn built(step: &Step) -> bool
     ensures { result ≡ is_built step.now }
 {
     match step {
-        Step::Limit { .. } => false,
         Step::Init { flags } => !asks_for_handles(*flags),
         Step::Begin { op, .. } => matches!(op, OpWord::Opens | OpWord::Writes),
         _ => true,

@@ -146,7 +146,7 @@ const OPS: [(&str, OpWord); 12] = [
 const BUILT: [(&str, bool); 21] = [
     ("mkfile /a", true),
     ("mkfs", true),
-    ("limit 1", false),
+    ("limit 1", true),
     ("init 0", true),
     ("init fffff1ff", true),
     ("init 200", false),

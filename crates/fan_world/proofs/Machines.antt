@@ -71,6 +71,7 @@ advance_done parts groups entries last world number outcome machine steps same =
             (access_step world.groups did.access).groups machine.batch;
         accesses = did.kept;
         last_access = same ∙ machine.last_access;
+        limit = machine.limit;
       };
     })
 
@@ -112,6 +113,7 @@ module _ (parts : Parts) (world : WorldState) (machine : IsMachine parts world)
         (rw (← machine.last_access, ← keys_both parts.accesses world.accesses machine.accesses) begun));
     accesses = machine.accesses;
     last_access = machine.last_access;
+    limit = machine.limit;
   }
 
   -- the batch ends, or goes on
@@ -141,6 +143,7 @@ module _ (parts : Parts) (world : WorldState) (machine : IsMachine parts world)
       batch = record { count = is.count; begun = is.begun; own = is.own; held = is.held };
       accesses = machine.accesses;
       last_access = machine.last_access;
+      limit = machine.limit;
     };
   }
 
@@ -201,7 +204,7 @@ module _ (old new : Parts) (world : WorldState) (number : ℕ) (place : Place) (
     (tree : new.tree ≡ old.tree) (mounts : new.mounts ≡ old.mounts) (groups : new.groups ≡ old.groups)
     (batch : new.batch ≡ old.batch) (last : new.last_access ≡ number)
     (entries : new.accesses ≡ insert_entry nat_cmp old.accesses number kept)
-    (near_is : kept.marks ≡ filter (near place) new.marks) where
+    (near_is : kept.marks ≡ filter (near place) new.marks) (limit : new.limit ≡ old.limit) where
   -- the access that begins sees the marks as they stand then
   begins_in : (op : Op) (next : WorldState)
       → ((marks view : List Mark) → IsMarkList view → SeesSame marks (new_access op place pid tid view)
@@ -209,8 +212,9 @@ module _ (old new : Parts) (world : WorldState) (number : ℕ) (place : Place) (
       → new.marks ≡ next.marks → new.waiting ≡ length next.waiting → next.tree ≡ world.tree
       → next.mounts ≡ world.mounts → next.groups ≡ world.groups → next.batch ≡ world.batch
       → next.accesses ≡ insert_entry nat_cmp world.accesses number (new_access op place pid tid next.marks)
-      → next.last_access ≡ number → IsMachine new next
-  begins_in op next goes_on marks waiting same_tree same_mounts same_groups same_batch accesses same_last =
+      → next.last_access ≡ number → next.limit ≡ world.limit → IsMachine new next
+  begins_in op next goes_on marks waiting same_tree same_mounts same_groups same_batch accesses same_last
+      same_limit =
       let access = new_access op place pid tid next.marks in
       let view_list : IsMarkList next.marks = rw marks at is_list in
       let near_view : kept.marks ≡ filter (near place) next.marks =
@@ -233,6 +237,7 @@ module _ (old new : Parts) (world : WorldState) (number : ℕ) (place : Place) (
               goes_on = goes_on kept.marks next.marks view_list sees;
             }));
         last_access = last ∙ sym same_last;
+        limit = limit ∙ machine.limit ∙ sym same_limit;
       }
 
   -- it begins with the change of its operation
@@ -244,11 +249,11 @@ module _ (old new : Parts) (world : WorldState) (number : ℕ) (place : Place) (
       → IsMachine new (begins number op place pid tid world)
   begin_done ops.Opens goes_on marks waiting =
       begins_in ops.Opens (begins number ops.Opens place pid tid world) goes_on (marks ∙ machine.marks)
-      (waiting ∙ add-zero old.waiting ∙ machine.waiting) refl refl refl refl refl refl
+      (waiting ∙ add-zero old.waiting ∙ machine.waiting) refl refl refl refl refl refl refl
   begin_done ops.Writes goes_on marks waiting =
       begins_in ops.Writes (begins number ops.Writes place pid tid world) goes_on
       (marks ∙ ap (λ (marks : List Mark). changed marks (Clear place.inode)) machine.marks)
       (waiting
       ∙ ap (λ (marks : List Mark). old.waiting + length (retired marks (Clear place.inode))) machine.marks
       ∙ waits_more old.waiting world.waiting number (retired world.marks (Clear place.inode)) machine.waiting)
-      refl refl refl refl refl refl
+      refl refl refl refl refl refl refl

@@ -26,6 +26,7 @@ pub record Parts : Type 0 where
   pub batch : Option KeptBatch
   pub accesses : List (ℕ × OpenAccess)
   pub last_access : ℕ
+  pub limit : ℕ
   pub steps : ℕ
 
 -- an open access is kept at its number, with the marks near its place
@@ -59,6 +60,7 @@ pub record IsMachine (parts : Parts) (world : WorldState) : Type 0 where
   pub batch : IsBatchIn parts.batch world.batch world
   pub accesses : AllZip IsOpen parts.accesses world.accesses
   pub last_access : parts.last_access ≡ world.last_access
+  pub limit : parts.limit ≡ world.limit
 
 -- the parts stand for the state after a step, and this is its reply
 pub record IsStep (parts : Parts) (reply : Reply) (outcome : Outcome) : Type 0 where

@@ -1,7 +1,7 @@
 // Steps of groups and their listeners: fanotify_init(2), read(2), write(2), close(2).
 ghost use Rattle.std.specs.Prelude.{◌≡◌, ◌+◌, ◌<◌, ◌^◌, ◌&&◌, not, IfOk, OnErr};
 ghost use Rattle.fan_bits.specs.Words.{has_handles, is_init_flags};
-ghost use Rattle.fan_machine.specs.Groups.{group_closed, group_made, group_read, group_written};
+ghost use Rattle.fan_machine.specs.Groups.{group_closed, group_made, group_read, group_written, limit_set};
 ghost use Rattle.fan_machine.specs.World.{WorldState};
 ghost use Rattle.fan_world.specs.Bounds.{IsSafe};
 ghost use Rattle.fan_world.specs.Done.{IsDone};
@@ -17,10 +17,28 @@ use fan_script::Reply;
 // How many groups may be open.
 const MAX_OPEN_GROUPS: usize = 128;
 
-// How many entries the queue of a group has at most.
-const QUEUE_LIMIT: u32 = 16_384;
+/// How many entries fill a queue at most.
+pub(crate) const MAX_LIMIT: u32 = 16_384;
 
 impl Machine {
+    /// `limit`: how many entries fill the queue of a group that is made later. EINVAL for a limit that no
+    /// line has. Allocates nothing.
+    #[tactic(auto, unfolding(fan_machine::specs::Groups::limit_set))]
+    pub(crate) fn set_limit(&mut self, entries: u32) -> Result<Reply, Refused>
+        requires safe { IsSafe self.old.steps self.old }
+        ensures done { (world : WorldState) → IsMachine self.old world
+            → IsDone self.new result (limit_set world entries) }
+        ensures safe { IsSafe (self.old.steps + 1) self.new }
+        ensures steps { self.new.steps ≡ self.old.steps }
+        ensures err { OnErr result (self.new ≡ self.old) }
+    {
+        if entries < 1 || entries > MAX_LIMIT {
+            return Err(Refused::No(Errno::Einval));
+        }
+        self.limit = entries;
+        Ok(Reply::Done)
+    }
+
     /// `init`: EINVAL, also for flags that ask for handles, which aren't built yet; EMFILE.
     #[tactic(auto, unfolding(fan_machine::specs::Groups::group_made))]
     pub(crate) fn init(&mut self, flags: u32) -> Result<Reply, Refused>
@@ -39,7 +57,7 @@ impl Machine {
         if self.groups.open_count() >= MAX_OPEN_GROUPS {
             return Err(Refused::No(Errno::Emfile));
         }
-        Ok(Reply::Group(self.groups.make(init, QUEUE_LIMIT)?))
+        Ok(Reply::Group(self.groups.make(init, self.limit)?))
     }
 
     /// `read`: EBADF, EAGAIN, EINVAL.

@@ -8,10 +8,10 @@ ghost use Rattle.fan_world.specs.Done.{IsDone};
 ghost use Rattle.fan_world.specs.Machine.{IsMachine};
 
 use super::files::Files;
+use super::group_steps::MAX_LIMIT;
 use super::open_accesses::OpenAccesses;
 use super::refused::Refused;
 use super::retirement::Retirement;
-use fan_bits::Errno;
 use fan_groups::Groups;
 use fan_io::NoMemory;
 use fan_marks::MarkBook;
@@ -28,6 +28,8 @@ pub(crate) struct Machine {
     pub(crate) marks: MarkBook,
     pub(crate) retirement: Retirement,
     pub(crate) accesses: OpenAccesses,
+    // How many entries fill the queue of a group that is made now.
+    pub(crate) limit: u32,
     steps: u32,
 }
 
@@ -45,6 +47,7 @@ impl Model for Machine {
       batch = m.retirement.batch;
       accesses = m.accesses.entries;
       last_access = m.accesses.last;
+      limit = m.limit;
       steps = m.steps;
     } };
 }
@@ -63,6 +66,7 @@ impl Machine {
             marks: MarkBook::new(alloc)?,
             retirement: Retirement::new(),
             accesses: OpenAccesses::new(alloc),
+            limit: MAX_LIMIT,
             steps: 0,
         })
     }
@@ -99,7 +103,7 @@ impl Machine {
             Step::MkFs => self.make_fs(),
             Step::Mount { fs, path } => self.mount(*fs, path.as_slice()),
             Step::Umount { path } => self.umount(path.as_slice()),
-            Step::Limit { .. } => Err(Refused::No(Errno::Einval)),
+            Step::Limit { entries } => self.set_limit(*entries),
             Step::Init { flags } => self.init(*flags),
             Step::Mark {
                 group,

@@ -25,7 +25,7 @@ returns-clause-begins c world machine =
     (c.add_reserved.ensures.entries
     ∙ ap (λ (es : List (ℕ × OpenAccess)). insert_entry nat_cmp es c.args.number kept)
     c.reserve.ensures.entries)
-    c.empty_ignored.ensures.beside c.args.op c.new-access.ensures.begins c.empty_ignored.ensures.marks
+    c.empty_ignored.ensures.beside refl c.args.op c.new-access.ensures.begins c.empty_ignored.ensures.marks
     c.empty_ignored.ensures.waiting
 
 pub returns-clause-safe : goal.returns-clause-safe
