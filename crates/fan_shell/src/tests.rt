@@ -8,6 +8,7 @@ use std::test::Fail;
 mod accesses;
 mod limits;
 mod marks;
+mod queues;
 mod tree;
 
 const FIRST: &[u8] =
