@@ -1,17 +1,19 @@
 -- How far each step of a listener moves its numbers.
-use Rattle.std.proofs.Common.{◌≡◌, ℕ, ◌+◌, ◌-◌, ◌≤◌, Bool, true, false, not, cond, List, [], ◌∷◌, length, find, ◌==◌, Option, Some, None, Result, Ok, Err, refl, ap, arith, length-append, length-drop, nat_lt, nat_le}
+use Rattle.std.proofs.Common.{◌≡◌, ℕ, ◌+◌, ◌-◌, ◌≤◌, Bool, true, false, not, cond, List, [], ◌∷◌, length, ◌==◌, Option, Some, None, Result, Ok, Err, IfOk, OnErr, refl, ap, sym, subst, arith, length-append, length-drop, nat_lt, nat_le}
 use Rattle.fan_bits.specs.declared.errno.Errno.{Errno}
 use Rattle.fan_bits.specs.declared.errno.Errno.TheVariants as errno
-use Rattle.fan_listener.specs.declared.event.Event.{Event}
-use Rattle.fan_listener.specs.declared.queue.Body.{Body}
-use Rattle.fan_listener.specs.declared.queue.Body.TheVariants.{Told, Overflow}
-use Rattle.fan_listener.specs.declared.queue.Entry.{Entry}
-use Rattle.fan_listener.specs.declared.queue.Put.{Put}
+use Rattle.fan_event.specs.declared.event.Event.{Event}
+use Rattle.fan_queue.specs.declared.entry.Body.{Body}
+use Rattle.fan_queue.specs.declared.entry.Body.TheVariants.{Told, Lost}
+use Rattle.fan_queue.specs.declared.entry.Entry.{Entry}
+use Rattle.fan_queue.specs.declared.entry.Put.{Put}
 use Rattle.fan_listener.specs.declared.answers.Answered.{Answered}
 use Rattle.fan_listener.specs.declared.answers.Verdict.{Verdict}
 use Rattle.fan_lists.proofs.FirstLemmas.{length-change_first}
 use Rattle.fan_listener.specs.ListenerState.{ListenerState}
-use Rattle.fan_listener.specs.Queue.{put, put_overflow, put_event, queued, is_full, is_overflow, takes}
+use Rattle.fan_queue.specs.Queue.{queued}
+use Rattle.fan_listener.specs.Queue.{put}
+use Rattle.fan_listener.proofs.PutLemmas.{by_put_to}
 use Rattle.fan_listener.specs.Records.{read_of, read_front, front_read, front_within, next_fd_after, fd_after, record_len}
 use Rattle.fan_listener.specs.Responses.{written, responded, answered, waiting_under, verdict, fd_in, value_in, answer_of, closed_of}
 use Rattle.fan_listener.specs.Bounds.{Makes}
@@ -20,51 +22,31 @@ use Rattle.fan_listener.specs.Bounds.{Makes}
 stays : (entries : ℕ) (state : ListenerState) → Makes entries state state
 stays entries state = record { made = omega arith; given = omega arith; same_flags = refl; same_limit = refl }
 
--- one more entry
-makes-queued : (state : ListenerState) (body : Body) → Makes 1 state (queued state body)
-unfolding queued
-makes-queued state body = record {
-  made = omega arith;
-  given = rw length-append (omega arith);
-  same_flags = refl;
-  same_limit = refl;
-}
-
--- one more entry, if there was no overflow entry
-makes-put_overflow : (state : ListenerState) (entry : Option Entry)
-    → Makes 1 state (put_overflow state entry).1
-makes-put_overflow state (Some entry) = stays 1 state
-makes-put_overflow state None = makes-queued state Overflow
-
--- one more entry, if no entry takes the event
-makes-put_event : (state : ListenerState) (event : Event) (entry : Option Entry)
-    → Makes 1 state (put_event state event entry).1
-makes-put_event state event (Some entry) = record {
-  made = omega arith;
-  given = rw length-change_first (omega arith);
-  same_flags = refl;
-  same_limit = refl;
-}
-makes-put_event state event None = makes-queued state (Told event)
-
--- a choice makes what both parts make
-makes-cond : (b : Bool) (state : ListenerState) (left right : Put × ListenerState)
-    → Makes 1 state left.1 → Makes 1 state right.1 → Makes 1 state (cond b left right).1
-makes-cond true state left right here there = here
-makes-cond false state left right here there = there
-
 -- a put makes one entry at most
 pub makes-put : (state : ListenerState) (event : Event) → Makes 1 state (put state event).1
-unfolding put
+unfolding queued
 makes-put state event =
-    makes-cond state.closed state _ _ (stays 1 state)
-    (makes-cond (is_full state) state _ _ (makes-put_overflow state (find is_overflow state.queue))
-    (makes-put_event state event (find (takes event) state.queue)))
+    by_put_to (λ done. Makes 1 state done.1) state event (λ closed. stays 1 state) (λ entry opened. stays 1 state)
+    (λ opened. record { made = omega arith; given = rw length-append (omega arith); same_flags = refl; same_limit = refl })
+    (λ entry opened plain. record {
+      made = omega arith;
+      given = rw length-change_first (omega arith);
+      same_flags = refl;
+      same_limit = refl;
+    })
+    (λ opened. record { made = omega arith; given = rw length-append (omega arith); same_flags = refl; same_limit = refl })
+
+-- whether a put is done or refused, it makes one entry at most
+pub makes-tried : {E : Type 0} (old new : ListenerState) (event : Event) (result : Result Put E)
+    → IfOk result (λ outcome. (outcome, new) ≡ put old event) → OnErr result (new ≡ old) → Makes 1 old new
+makes-tried old new event (Ok outcome) done kept =
+    subst (λ (done : Put × ListenerState). Makes 1 old done.1) (sym done) (makes-put old event)
+makes-tried old new event (Err why) done kept = rw kept (stays 1 old)
 
 -- an entry takes one descriptor at most
-fd_after-le : (fd : ℕ) (body : Body) → fd_after fd body ≤ fd + 1
+pub fd_after-le : (fd : ℕ) (body : Body) → fd_after fd body ≤ fd + 1
 fd_after-le fd (Told event) = omega arith
-fd_after-le fd Overflow = omega arith
+fd_after-le fd Lost = omega arith
 
 -- entries take one descriptor each at most
 next_fd_after-le : (fd : ℕ) (entries : List Entry) → next_fd_after fd entries ≤ fd + length entries

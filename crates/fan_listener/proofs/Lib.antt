@@ -1,5 +1,5 @@
 pub mod ResponseLemmas
-pub mod QueueLemmas
+pub mod PutLemmas
 pub mod RecordLemmas
 pub mod Bounds
 pub mod Laws

@@ -1,12 +1,15 @@
 -- The front of a queue by division.
-use Rattle.std.proofs.Common.{◌≡◌, ℕ, ◌+◌, ◌-◌, ◌*◌, ◌<◌, ◌≤◌, true, false, cond, List, [], ◌∷◌, ◌++◌, append_assoc, Bool, count_by, length-append, drop, take, length, min, zero, suc, refl, ap, arith, nat_le}
+use Rattle.std.proofs.Common.{◌≡◌, ℕ, ◌+◌, ◌-◌, ◌*◌, ◌<◌, ◌≤◌, true, false, cond, List, [], ◌∷◌, ◌++◌, append_assoc, Bool, count_by, length-append, drop, take, length, min, zero, suc, refl, ap, sym, ◌∙◌, arith, nat_le, slice_get, Option, Some, None, IfSome, IfNone}
 use native.Mathlib.Numerals.{unary_clauses}
 use Rattle.std.proofs.lemmas.Bool.Decides.{nat_tests}
-use Rattle.fan_listener.specs.declared.queue.Entry.{Entry}
-use Rattle.fan_listener.specs.declared.queue.Body.{Body}
-use Rattle.fan_listener.specs.declared.queue.Body.TheVariants.{Told, Overflow}
-use Rattle.fan_listener.specs.declared.answers.Pending.{Pending}
+use Rattle.fan_queue.specs.declared.entry.Entry.{Entry}
+use Rattle.fan_queue.specs.declared.entry.Body.{Body}
+use Rattle.fan_queue.specs.declared.entry.Body.TheVariants.{Told, Lost}
 use Rattle.std.proofs.lemmas.List.Sums.{sum_by-cons, sum_by-take-drop}
+use Rattle.std.proofs.lemmas.List.{drop_all, drop_more, get_or-take, length-take}
+use Rattle.std.proofs.lemmas.Option.{get_or_from_slice_get, slice_get_within, some_pair_parts}
+use Rattle.fan_queue.specs.Queue.{taken, taken_from}
+use Rattle.fan_queue.specs.QueueState.{QueueState}
 use Rattle.fan_listener.specs.Queue.{asks, body_asks}
 use Rattle.fan_listener.specs.Records.{front_within, pendings, pending_of, fd_after}
 
@@ -40,7 +43,7 @@ one_or_none false x = refl
 length-pending_of : (fd number : ℕ) (body : Body)
     → length (pending_of fd number body) ≡ cond (body_asks body) 1 0
 length-pending_of fd number (Told event) = one_or_none event.perm (record { fd = fd; entry = number })
-length-pending_of fd number Overflow = refl
+length-pending_of fd number Lost = refl
 
 -- so many events wait after a read as permission events were read
 length-pendings : (fd : ℕ) (entries : List Entry) → length (pendings fd entries) ≡ count_by asks entries
@@ -54,14 +57,51 @@ length-pendings fd (entry ∷ rest) =
       length-pending_of fd entry.number entry.body,
     ) refl
 
--- a read leaves room for as many answers as before
-pub room_after_read : (answers room fd count : ℕ) (pending : List Pending) (queue : List Entry)
-    → answers + length pending + count_by asks queue ≤ room
-    → answers + length (pending ++ pendings fd (take count queue)) + count_by asks (drop count
-    queue) ≤ room
-room_after_read answers room fd count pending queue fits =
-    rw (length-append, length-pendings fd (take count queue)) (omega (
-      arith,
-      sum_by-take-drop
-          (λ entry. cond (asks entry) 1 0) queue count,
-    ))
+-- so many permission events less are queued after a read
+pub asked_after_read : (fd count : ℕ) (queue : List Entry)
+    → length (pendings fd (take count queue)) + count_by asks (drop count queue) ≡ count_by asks queue
+asked_after_read fd count queue =
+    rw (length-pendings fd (take count queue)) (sum_by-take-drop (λ entry. cond (asks entry) 1 0) queue count)
+
+-- a front goes on with the entry at an index
+pub front_step : (count index : ℕ) (entries : List Entry) (entry : Entry) → index < count
+    → slice_get entries index ≡ Some entry
+    → drop index (take count entries) ≡ entry ∷ drop (index + 1) (take count entries)
+front_step count index entries entry below is =
+    let within = slice_get_within entries index entry is in
+    let long : index < length (take count entries) = rw length-take (grind (arith, nat_tests, below, within)) in
+    drop_more (take count entries) index entry long
+    ∙ ap (λ x. x ∷ drop (index + 1) (take count entries))
+    (get_or-take count entries index entry below ∙ get_or_from_slice_get entries index entry entry is)
+
+-- and ends there
+pub front_end : (index count : ℕ) (entries : List Entry) → count ≤ index → drop index (take count entries) ≡ []
+front_end index count entries past =
+    drop_all index (take count entries) (rw length-take (grind (arith, nat_tests, past)))
+
+-- what is taken from a queue is the first of its entries
+pub taken_is : (old new : QueueState) (entry : Entry) (entries : List Entry)
+    → taken_from old entries ≡ Some (entry, new)
+    → (entries ≡ entry ∷ new.entries) × (new.limit ≡ old.limit) × (new.next_entry ≡ old.next_entry)
+taken_is old new entry [] is = absurd cc
+taken_is old new entry (first ∷ rest) is =
+    let parts = some_pair_parts first entry (record old { entries = rest }) new is in (
+      rw (parts.0, ← parts.1) refl,
+      ap (λ (state : QueueState). state.limit) (sym parts.1),
+      ap (λ (state : QueueState). state.next_entry) (sym parts.1),
+    )
+
+-- and from an empty one none is
+none_taken : (old : QueueState) (entries : List Entry) → taken_from old entries ≡ None → entries ≡ []
+none_taken old [] is = refl
+none_taken old (first ∷ rest) is = absurd cc
+
+-- so a take leaves the entries behind the first
+pub took : (old new : QueueState) (entry : Option Entry)
+    → IfSome entry (λ entry. taken old ≡ Some (entry, new)) → IfNone entry (taken old ≡ None)
+    → IfNone entry (new ≡ old)
+    → (new.entries ≡ drop 1 old.entries) × (new.limit ≡ old.limit) × (new.next_entry ≡ old.next_entry)
+took old new (Some entry) some none same =
+    let is = taken_is old new entry old.entries some in (ap (λ xs. drop 1 xs) (sym is.0), is.1, is.2)
+took old new None some none same =
+    let empty = none_taken old old.entries none in rw (same, empty) (refl, refl, refl)

@@ -5,9 +5,9 @@ use Rattle.fan_bits.specs.declared.errno.Errno.TheVariants as errno
 use Rattle.fan_listener.specs.declared.answers.Answer.{Answer}
 use Rattle.fan_listener.specs.declared.answers.Answer.TheVariants as answers
 use Rattle.fan_listener.specs.declared.answers.Answered.{Answered}
-use Rattle.fan_listener.specs.declared.event.Event.{Event}
-use Rattle.fan_listener.specs.declared.queue.Put.{Put}
-use Rattle.fan_listener.specs.declared.queue.Put.TheVariants as puts
+use Rattle.fan_event.specs.declared.event.Event.{Event}
+use Rattle.fan_queue.specs.declared.entry.Put.{Put}
+use Rattle.fan_queue.specs.declared.entry.Put.TheVariants as puts
 use Rattle.fan_listener.specs.ListenerState.{ListenerState}
 use Rattle.fan_listener.specs.Queue.{put}
 use Rattle.fan_listener.specs.Records.{read_of}

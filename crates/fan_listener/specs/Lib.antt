@@ -1,5 +1,5 @@
 pub mod ListenerState
-pub mod Events
+pub mod Stored
 pub mod Queue
 pub mod Records
 pub mod Responses

@@ -1,6 +1,6 @@
 -- What a group's listener is: its queue, the events that wait for an answer, and their answers.
 use Rattle.std.specs.Prelude.{ℕ, Bool, false, List, []}
-use Rattle.fan_listener.specs.declared.queue.Entry.{Entry}
+use Rattle.fan_queue.specs.declared.entry.Entry.{Entry}
 use Rattle.fan_listener.specs.declared.answers.Pending.{Pending}
 use Rattle.fan_listener.specs.declared.answers.Kept.{Kept}
 

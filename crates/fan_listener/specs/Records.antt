@@ -4,9 +4,9 @@ use Rattle.std.specs.Int.{to_le_bytes, cast_unsigned, w16, w32, w64}
 use Rattle.fan_bits.specs.declared.errno.Errno.{Errno}
 use Rattle.fan_bits.specs.declared.errno.Errno.TheVariants as errno
 use Rattle.fan_bits.specs.MarkWords.{overflow_bit}
-use Rattle.fan_listener.specs.declared.queue.Body.{Body}
-use Rattle.fan_listener.specs.declared.queue.Body.TheVariants.{Told, Overflow}
-use Rattle.fan_listener.specs.declared.queue.Entry.{Entry}
+use Rattle.fan_queue.specs.declared.entry.Body.{Body}
+use Rattle.fan_queue.specs.declared.entry.Body.TheVariants.{Told, Lost}
+use Rattle.fan_queue.specs.declared.entry.Entry.{Entry}
 use Rattle.fan_listener.specs.declared.answers.Pending.{Pending}
 use Rattle.fan_listener.specs.ListenerState.{ListenerState}
 
@@ -24,18 +24,18 @@ record_len = 24
 -- an event's record has the descriptor; the overflow record FAN_Q_OVERFLOW, FAN_NOFD and no process
 abbrev pub record_of : ℕ → Body → List ℕ
 record_of fd (Told event) = record_bytes event.bits (pos fd) event.who
-record_of fd Overflow = record_bytes overflow_bit (negsuc 0) 0
+record_of fd Lost = record_bytes overflow_bit (negsuc 0) 0
 
 -- each record but the overflow record takes the next descriptor
 abbrev pub fd_after : ℕ → Body → ℕ
 fd_after fd (Told _) = fd + 1
-fd_after fd Overflow = fd
+fd_after fd Lost = fd
 
 -- a permission event waits for its answer under its descriptor
 abbrev pub pending_of : ℕ → ℕ → Body → List Pending
 pending_of fd number (Told event) =
     if event.perm then (record { fd = fd; entry = number }) ∷ [] else []
-pending_of fd number Overflow = []
+pending_of fd number Lost = []
 
 -- the records of entries, the first of which has this descriptor
 abbrev pub records : ℕ → List Entry → List ℕ

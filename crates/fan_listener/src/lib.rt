@@ -18,15 +18,13 @@
 #![tactic(auto)]
 
 mod answers;
-mod event;
 mod listener;
-mod queue;
 mod records;
 mod responses;
 #[cfg(test)]
 mod tests;
 
 pub use answers::{Answer, Answered, ReadRefused, Verdict, WriteRefused};
-pub use event::{Event, Target, event_for};
+pub use fan_event::{Event, Target, event_for};
+pub use fan_queue::{Body, Entry, Put};
 pub use listener::Listener;
-pub use queue::{Body, Entry, Put};

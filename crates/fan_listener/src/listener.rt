@@ -1,20 +1,20 @@
 // The listener of a group that gets descriptors: fanotify(7). When a permission event is queued, room
 // is found for the verdict on it, so that no later call needs memory for an answer.
-ghost use Rattle.std.specs.Prelude.{◌≡◌, ◌≢◌, ℕ, ◌+◌, ◌-◌, ◌^◌, ◌<◌, ◌≤◌, true, false, find, length, Ok, Err, IsOk, IfOk, IfErr, IfSome, OnOk, OnErr};
+ghost use Rattle.std.specs.Prelude.{◌≡◌, ◌≢◌, ℕ, ◌+◌, ◌-◌, ◌^◌, ◌<◌, ◌≤◌, if◌then◌else◌, true, false, length, Ok, Err, IsOk, IfOk, IfErr, IfSome, OnOk, OnErr};
 ghost use Rattle.fan_listener.specs.ListenerState.{new_listener};
-ghost use Rattle.fan_listener.specs.Queue.{put, put_overflow, is_full, is_overflow};
+ghost use Rattle.fan_listener.specs.Queue.{put, is_queued, limit_of};
 ghost use Rattle.fan_listener.specs.Records.{read_of, read_front, records, front_within};
 ghost use Rattle.fan_listener.specs.Refusals.{read_errno, write_errno};
 ghost use Rattle.fan_listener.specs.Responses.{written, answer_of, closed_of};
 ghost use Rattle.fan_listener.specs.Bounds.{Makes};
 
 use super::answers::{Answer, Answered, Kept, Pending, ReadRefused, WriteRefused};
-use super::event::Event;
-use super::queue::{Body, Entry, Put, count_asks, merge, overflow_entry, push_entry};
-use super::records::{RECORD_LEN, front_len, take_entries};
+use super::records::{RECORD_LEN, drop_front, front_len, take_entries};
 use super::responses::{fd_field, take_verdict, take_waiting, value_field, verdict};
 use fan_bits::InitWords;
+use fan_event::Event;
 use fan_io::NoMemory;
+use fan_queue::{Put, Queue};
 use std::alloc::Global;
 use std::marker::Model;
 
@@ -25,58 +25,59 @@ pub struct Listener {
     init: InitWords,
     // How many entries fill the queue.
     limit: u32,
-    queue: Vec<Entry>,
+    queue: Queue,
+    // How many permission events are queued.
+    asked: usize,
     // The permission events that were read and wait for an answer.
     pending: Vec<Pending>,
     // The verdicts that were given and not taken yet.
     // It has room for a verdict on each permission event that is queued or waits.
     answers: Vec<Kept>,
-    // The number of the next entry, from 1.
-    next_entry: u64,
     // The descriptor of the next event that is read, from 0.
     next_fd: u32,
     closed: bool,
 }
 
 impl Model for Listener {
-    ghost use Rattle.std.specs.Prelude.{◌+◌, ◌≤◌, length, count_by};
     ghost use Rattle.std.specs.Vec.{vec_capacity};
     ghost use Rattle.fan_listener.specs.ListenerState.{ListenerState};
-    ghost use Rattle.fan_listener.specs.Queue.{asks};
+    ghost use Rattle.fan_listener.specs.Stored.{IsStored};
 
     ghost Value = { ListenerState };
 
     ghost view = { λ l. record {
       flags = l.init.bits;
       limit = l.limit;
-      queue = l.queue.items;
+      queue = l.queue.entries;
       pending = l.pending.items;
       answers = l.answers.items;
-      next_entry = l.next_entry;
+      next_entry = l.queue.next_entry;
       next_fd = l.next_fd;
       closed = l.closed;
     } };
 
     ghost invariant = { λ l.
-        length l.answers.items + length l.pending.items + count_by asks l.queue.items
-        ≤ vec_capacity l.answers };
+        IsStored l.init.bits l.limit l.queue l.asked l.pending.items l.answers.items
+        (vec_capacity l.answers) };
 }
 
 impl Listener {
     /// A listener with nothing queued. At `limit` entries, from 1 to 16,384, the queue is full and the
     /// overflow entry stands for further events; with FAN_UNLIMITED_QUEUE it has no limit.
-    #[tactic(auto, unfolding(crate::specs::ListenerState::new_listener))]
+    #[tactic(auto, unfolding(crate::specs::ListenerState::new_listener, fan_queue::specs::QueueState::new_queue))]
     pub fn new(alloc: Global, init: InitWords, limit: u32) -> Result<Listener, NoMemory>
+        requires some { 1 ≤ limit }
+        requires most { limit ≤ 16384 }
         ensures { IfOk result (λ made. made ≡ new_listener init.bits limit) }
     {
         Ok(Listener {
             alloc,
             init,
             limit,
-            queue: Vec::new(alloc),
+            queue: Queue::new(alloc, limit_of(init, limit)),
+            asked: 0,
             pending: Vec::new(alloc),
             answers: Vec::new(alloc),
-            next_entry: 1,
             next_fd: 0,
             closed: false,
         })
@@ -100,7 +101,7 @@ impl Listener {
     pub fn entries_made(&self) -> u64
         ensures { result ≡ self.now.next_entry - 1 }
     {
-        self.next_entry.saturating_sub(1)
+        self.queue.next_entry().saturating_sub(1)
     }
 
     /// How many descriptors it gave out so far.
@@ -112,7 +113,6 @@ impl Listener {
 
     /// Puts a permission event on the queue. It is never merged. Memory is found here for its answer
     /// too. `NoMemory` changes nothing.
-    #[tactic(auto, using(crate::proofs::QueueLemmas::none_takes), unfolding(crate::specs::Queue::put, crate::specs::Queue::queued))]
     pub fn ask(&mut self, event: Event) -> Result<Put, NoMemory>
         requires permission { event.perm ≡ true }
         requires entries { self.old.next_entry ≤ 2 ^ 31 }
@@ -121,21 +121,11 @@ impl Listener {
         ensures err { OnErr result (self.new ≡ self.old) }
         ensures moved { Makes 1 self.old self.new }
     {
-        if self.closed {
-            return Ok(Put::Closed);
-        }
-        if self.is_full() {
-            return self.put_overflow();
-        }
-        let room = self.pending.len() + count_asks(&self.queue) + 1;
-        self.answers.reserve(room)?;
-        let entry = push_entry(&mut self.queue, &mut self.next_entry, Body::Told(event))?;
-        Ok(Put::Queued { entry })
+        self.put(event)
     }
 
     /// Puts an event that is no permission event on the queue, or merges it into the first queued
     /// event with its key. `NoMemory` changes nothing.
-    #[tactic(auto, unfolding(crate::specs::Queue::put, crate::specs::Queue::queued))]
     pub fn tell(&mut self, event: Event) -> Result<Put, NoMemory>
         requires notice { event.perm ≡ false }
         requires entries { self.old.next_entry ≤ 2 ^ 31 }
@@ -143,49 +133,26 @@ impl Listener {
         ensures err { OnErr result (self.new ≡ self.old) }
         ensures moved { Makes 1 self.old self.new }
     {
+        self.put(event)
+    }
+
+    // Puts an event on the queue.
+    #[tactic(auto, unfolding(crate::specs::Queue::put))]
+    fn put(&mut self, event: Event) -> Result<Put, NoMemory>
+        requires { self.old.next_entry ≤ 2 ^ 31 }
+        ensures ok { IfOk result (λ outcome. (outcome, self.new) ≡ put self.old event) }
+        ensures never_merged { event.perm ≡ true → (entry : ℕ) → result ≢ Ok (Put.Merged entry) }
+        ensures err { OnErr result (self.new ≡ self.old) }
+    {
         if self.closed {
             return Ok(Put::Closed);
         }
-        if self.is_full() {
-            return self.put_overflow();
-        }
-        if let Some(entry) = merge(&mut self.queue, &event) {
-            return Ok(Put::Merged {
-                entry: entry.number,
-            });
-        }
-        let entry = push_entry(&mut self.queue, &mut self.next_entry, Body::Told(event))?;
-        Ok(Put::Queued { entry })
-    }
-
-    // Whether the queue is as long as its limit allows.
-    #[tactic(auto, unfolding(crate::specs::Queue::is_full))]
-    fn is_full(&self) -> bool
-        ensures { result ≡ is_full self.now }
-    {
-        if self.init.unlimited_queue() {
-            return false;
-        }
-        self.queue.len() >= self.limit as usize
-    }
-
-    // Lets the overflow entry stand for an event, and queues it if there is none.
-    #[tactic(auto, unfolding(crate::specs::Queue::queued))]
-    fn put_overflow(&mut self) -> Result<Put, NoMemory>
-        requires { self.old.next_entry ≤ 2 ^ 31 }
-        ensures ok { IfOk result (λ outcome.
-            (outcome, self.new) ≡ put_overflow self.old (find is_overflow self.old.queue)) }
-        ensures never_merged { (entry : ℕ) → result ≢ Ok (Put.Merged entry) }
-        ensures err { OnErr result (self.new ≡ self.old) }
-        ensures moved { Makes 1 self.old self.new }
-    {
-        if let Some(entry) = overflow_entry(&self.queue) {
-            return Ok(Put::Overflow {
-                entry: entry.number,
-            });
-        }
-        let entry = push_entry(&mut self.queue, &mut self.next_entry, Body::Overflow)?;
-        Ok(Put::Overflow { entry })
+        let more = answers_to(&event);
+        self.answers
+            .reserve(self.pending.len() + self.asked + more)?;
+        let put = self.queue.put(event)?;
+        self.asked += added(put, more);
+        Ok(put)
     }
 
     /// The records of the longest front of the queue that fits into `size` bytes. They leave the
@@ -227,10 +194,12 @@ impl Listener {
             OnOk result (self.new ≡ read_front self.old front) }
         ensures err { OnErr result (self.new ≡ self.old) }
     {
-        let count = front_len(&self.queue, size);
-        let mut taken = take_entries(self.alloc, &self.queue[..count], self.next_fd)?;
+        let count = front_len(self.queue.len(), size);
+        let mut taken = take_entries(self.alloc, &self.queue, count, self.next_fd)?;
+        let asked = taken.pending.len();
         self.pending.append(&mut taken.pending)?;
-        self.queue.drain(..count);
+        drop_front(&mut self.queue, count);
+        self.asked -= asked;
         self.next_fd = taken.next_fd;
         Ok(taken.bytes)
     }
@@ -286,7 +255,36 @@ impl Listener {
         ensures moved { Makes 0 self.old self.new }
     {
         self.closed = true;
-        self.queue = Vec::new(self.alloc);
+        self.queue.clear();
+        self.asked = 0;
         self.pending = Vec::new(self.alloc);
     }
+}
+
+// How many entries fill the queue of a group with these flags.
+fn limit_of(init: InitWords, limit: u32) -> Option<u32>
+    ensures { result ≡ limit_of init.bits limit }
+{
+    if init.unlimited_queue() {
+        None
+    } else {
+        Some(limit)
+    }
+}
+
+// How many of so many more are queued where a put had this outcome.
+fn added(put: Put, more: usize) -> usize
+    ensures { result ≡ (if is_queued put then more else 0) }
+{
+    match put {
+        Put::Queued { .. } => more,
+        _ => 0,
+    }
+}
+
+// How many answers an event waits for.
+fn answers_to(event: &Event) -> usize
+    ensures { result ≡ (if event.now.perm then 1 else 0) }
+{
+    if event.perm { 1 } else { 0 }
 }

@@ -1,11 +1,12 @@
 // The records of a read, and the events that wait for an answer once it is done: fanotify(7).
-ghost use Rattle.std.specs.Prelude.{◌≡◌, ℕ, ◌+◌, ◌*◌, ◌^◌, ◌<◌, ◌≤◌, ◌++◌, ◌∷◌, length, take, IfOk, OnOk};
-ghost use Rattle.fan_listener.specs.Records.{record_bytes, records, pendings, next_fd_after, front_within};
+ghost use Rattle.std.specs.Prelude.{◌≡◌, ℕ, ◌+◌, ◌*◌, ◌^◌, ◌<◌, ◌≤◌, ◌++◌, ◌∷◌, List, length, take, drop, IfOk, OnOk};
+ghost use Rattle.fan_queue.specs.declared.entry.Entry.{Entry};
+ghost use Rattle.fan_listener.specs.Records.{record_bytes, record_of, records, pending_of, pendings, fd_after, next_fd_after, front_within};
 
 use super::answers::Pending;
-use super::queue::{Body, Entry};
 use fan_bits::FAN_Q_OVERFLOW;
 use fan_io::NoMemory;
+use fan_queue::{Body, Entry, Queue};
 use std::alloc::Global;
 
 // The length of a record: `struct fanotify_event_metadata`.
@@ -31,50 +32,89 @@ pub(crate) struct Taken {
     pub(crate) next_fd: u32,
 }
 
-// How many entries from the front on have records that fit.
-pub(crate) fn front_len(entries: &[Entry], size: u32) -> usize
-    ensures within { result ≤ length entries.now }
+// How many of so many entries from the front on have records that fit.
+pub(crate) fn front_len(len: usize, size: u32) -> usize
+    ensures within { result ≤ len }
     ensures small { 24 * result ≤ size }
-    ensures front { take result entries.now ≡ front_within size entries.now }
+    ensures front { (entries : List Entry) → length entries ≡ len
+        → take result entries ≡ front_within size entries }
 {
     let fitting = (size / RECORD_LEN) as usize;
-    fitting.min(entries.len())
+    fitting.min(len)
 }
 
-// The records of entries, the first of which gets this descriptor, and what waits afterwards.
+// The records of so many entries from the front on, the first of which gets this descriptor, and what
+// waits afterwards.
 pub(crate) fn take_entries(
     alloc: Global,
-    entries: &[Entry],
+    queue: &Queue,
+    count: usize,
     first_fd: u32,
 ) -> Result<Taken, NoMemory>
-    requires { first_fd + length entries.now < 2 ^ 31 }
-    ensures bytes { IfOk result (λ taken. taken.bytes.items ≡ records first_fd entries.now) }
-    ensures pending { IfOk result (λ taken. taken.pending.items ≡ pendings first_fd entries.now) }
-    ensures next { IfOk result (λ taken. taken.next_fd ≡ next_fd_after first_fd entries.now) }
+    requires within { count ≤ length queue.now.entries }
+    requires few { first_fd + count < 2 ^ 31 }
+    ensures bytes { IfOk result (λ taken.
+        taken.bytes.items ≡ records first_fd (take count queue.now.entries)) }
+    ensures pending { IfOk result (λ taken.
+        taken.pending.items ≡ pendings first_fd (take count queue.now.entries)) }
+    ensures next { IfOk result (λ taken.
+        taken.next_fd ≡ next_fd_after first_fd (take count queue.now.entries)) }
 {
-    let mut bytes = Vec::new(alloc);
-    let mut pending = Vec::new(alloc);
-    let mut fd = first_fd;
-    for entry in entries {
-        match entry.body {
-            Body::Told(event) => {
-                push_record(&mut bytes, u64::from(event.bits), fd as i32, event.who)?;
-                if event.perm {
-                    pending.push(Pending {
-                        fd,
-                        entry: entry.number,
-                    })?;
-                }
-                fd += 1;
-            }
-            Body::Overflow => push_record(&mut bytes, u64::from(FAN_Q_OVERFLOW), NOFD, 0)?,
-        }
+    let mut taken = Taken {
+        bytes: Vec::new(alloc),
+        pending: Vec::new(alloc),
+        next_fd: first_fd,
+    };
+    for index in 0..count {
+        let Some(entry) = queue.get(index) else {
+            unreachable!();
+        };
+        take_entry(&mut taken, entry)?;
     }
-    Ok(Taken {
-        bytes,
-        pending,
-        next_fd: fd,
-    })
+    Ok(taken)
+}
+
+// The record of one entry more.
+fn take_entry(taken: &mut Taken, entry: &Entry) -> Result<(), NoMemory>
+    requires { taken.old.next_fd < 2 ^ 31 }
+    ensures bytes { OnOk result (taken.new.bytes.items
+        ≡ taken.old.bytes.items ++ record_of taken.old.next_fd entry.now.body) }
+    ensures pending { OnOk result (taken.new.pending.items ≡ taken.old.pending.items
+        ++ pending_of taken.old.next_fd entry.now.number entry.now.body) }
+    ensures next { OnOk result (taken.new.next_fd ≡ fd_after taken.old.next_fd entry.now.body) }
+{
+    let fd = taken.next_fd;
+    match &entry.body {
+        Body::Told(event) => {
+            push_record(
+                &mut taken.bytes,
+                u64::from(event.bits),
+                fd as i32,
+                event.who,
+            )?;
+            if event.perm {
+                taken.pending.push(Pending {
+                    fd,
+                    entry: entry.number,
+                })?;
+            }
+            taken.next_fd += 1;
+        }
+        Body::Lost => push_record(&mut taken.bytes, u64::from(FAN_Q_OVERFLOW), NOFD, 0)?,
+    }
+    Ok(())
+}
+
+// The entries at the front leave the queue.
+pub(crate) fn drop_front(queue: &mut Queue, count: usize)
+    requires { count ≤ length queue.old.entries }
+    ensures entries { queue.new.entries ≡ drop count queue.old.entries }
+    ensures same_limit { queue.new.limit ≡ queue.old.limit }
+    ensures same_next { queue.new.next_entry ≡ queue.old.next_entry }
+{
+    for _ in 0..count {
+        queue.take();
+    }
 }
 
 // Appends one record.

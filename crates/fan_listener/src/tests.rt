@@ -103,6 +103,9 @@ fn play(alloc: Global, history: &str) -> Result<String, NoMemory> {
     let Ok(init) = init_words(flags) else {
         return Ok(out);
     };
+    if limit < 1 || limit > 16_384 {
+        return Ok(out);
+    }
     let mut listener = Listener::new(alloc, init, limit)?;
     for word in words {
         if !out.is_empty() {

@@ -1,12 +1,15 @@
-use Rattle.std.proofs.Common.{◌≡◌, ◌+◌, ◌≤◌, ◌++◌, drop}
+use Rattle.std.proofs.Common.{◌≡◌, ◌+◌, ◌≤◌, ◌++◌, drop, take}
 use Rattle.fan_listener.specs.Records.{records, pendings, next_fd_after}
 use Rattle.fan_listener.proofs.records.take_entries.Given as goal
 
 -- what was taken so far, and what the rest gives from here on, are what all entries give
-abbrev pub invariant-loop-entry : goal.invariant-loop-entry
-invariant-loop-entry l = record {
-  bytes : l.bytes.items ++ records l.fd (drop l.entry-index l.entries) ≡ records l.first_fd l.entries;
-  pending : l.pending.items ++ pendings l.fd (drop l.entry-index l.entries) ≡ pendings l.first_fd l.entries;
-  next : next_fd_after l.fd (drop l.entry-index l.entries) ≡ next_fd_after l.first_fd l.entries;
-  few : l.fd ≤ l.first_fd + l.entry-index;
+abbrev pub invariant-loop-index : goal.invariant-loop-index
+invariant-loop-index l = record {
+  bytes : l.taken.bytes.items ++ records l.taken.next_fd (drop l.index (take l.count l.queue.entries))
+      ≡ records l.first_fd (take l.count l.queue.entries);
+  pending : l.taken.pending.items ++ pendings l.taken.next_fd (drop l.index (take l.count l.queue.entries))
+      ≡ pendings l.first_fd (take l.count l.queue.entries);
+  next : next_fd_after l.taken.next_fd (drop l.index (take l.count l.queue.entries))
+      ≡ next_fd_after l.first_fd (take l.count l.queue.entries);
+  few : l.taken.next_fd ≤ l.first_fd + l.index;
 }
