@@ -1,7 +1,6 @@
 -- What a step makes of an access, by the turns that are left of it.
-use Rattle.std.proofs.Common.{◌≡◌, ◌≢◌, ◌∙◌, ℕ, ◌+◌, true, List, [], ◌∷◌, Option, Some, None, map, drop, refl, sym, subst}
-use Rattle.std.specs.Prelude.{find, if◌then◌else◌, slice_get}
-use Rattle.std.proofs.lemmas.Bool.{cond_both}
+use Rattle.std.proofs.Common.{◌≡◌, ◌≢◌, ◌∙◌, ℕ, ◌+◌, true, false, List, [], ◌∷◌, Some, None, map, drop, refl, sym, subst}
+use Rattle.std.specs.Prelude.{slice_get}
 use Rattle.std.proofs.lemmas.List.{drop-map}
 use Rattle.fan_access.specs.Access.{AccessState, Asking, Phase, Telling, Waiting, access_step, asks, asks_next, looked, step_at, tells, tells_next}
 use Rattle.fan_access.specs.Kept.{AsksLeft, IsAccess, IsPhase, KeptAccess, SeesSame, TellsLeft, turns_behind, turns_left}
@@ -13,14 +12,13 @@ use Rattle.fan_access.specs.declared.turn.Turn.{Turn}
 use Rattle.fan_bits.specs.declared.mark.Mark.{Mark}
 use Rattle.fan_bits.specs.declared.place.Happening.{Happening}
 use Rattle.fan_bits.specs.Marks.{IsMarkList}
-use Rattle.fan_listener.specs.declared.event.Event.{Event}
-use Rattle.fan_listener.specs.declared.queue.Entry.{Entry}
-use Rattle.fan_listener.specs.declared.queue.Put.{Put}
-use Rattle.fan_listener.specs.declared.queue.Put.TheVariants as puts
+use Rattle.fan_event.specs.declared.event.Event.{Event}
+use Rattle.fan_queue.specs.declared.entry.Put.{Put}
+use Rattle.fan_queue.specs.declared.entry.Put.TheVariants as puts
 use Rattle.fan_listener.specs.Groups.{called_at, listener_at, put_to}
 use Rattle.fan_listener.specs.ListenerState.{ListenerState}
-use Rattle.fan_listener.specs.Queue.{is_full, is_overflow, put, put_event, put_overflow, takes}
-use Rattle.fan_listener.proofs.QueueLemmas.{none_takes}
+use Rattle.fan_listener.specs.Queue.{put}
+use Rattle.fan_listener.proofs.PutLemmas.{by_put_to}
 use Rattle.fan_access.proofs.Turns.{got-drop, none-drop, turns_behind-start}
 
 -- ---- the marks leave the turns that the view leaves
@@ -114,23 +112,12 @@ module _ (marks : List Mark) (kept : KeptAccess) (access : AccessState)
 
 -- ---- a permission event is merged nowhere
 
-overflow_merges_none : (state : ListenerState) (found : Option Entry) (entry : ℕ)
-    → (put_overflow state found).0 ≢ puts.Merged entry
-overflow_merges_none state None entry = λ merged. cc
-overflow_merges_none state (Some first) entry = λ merged. cc
-
 put_merges_none : (state : ListenerState) (event : Event) (entry : ℕ) → event.perm ≡ true
     → (put state event).0 ≢ puts.Merged entry
-unfolding put
 put_merges_none state event entry permission =
-    let P : Put × ListenerState → Type 0 = λ r. r.0 ≢ puts.Merged entry in
-    let overflow = put_overflow state (find is_overflow state.queue) in
-    let queued = put_event state event (find (takes event) state.queue) in
-    cond_both state.closed (puts.Closed, state) (if is_full state then overflow else queued) P
-    (λ closed merged. cc)
-    (λ takes_more. cond_both (is_full state) overflow queued P
-    (λ full. overflow_merges_none state (find is_overflow state.queue) entry)
-    (λ room. rw (none_takes event state.queue permission) (λ merged. cc)))
+    by_put_to (λ r. r.0 ≢ puts.Merged entry) state event (λ closed merged. cc) (λ other opened merged. cc)
+    (λ opened merged. cc) (λ other opened plain. absurd (let never : true ≡ false = sym permission ∙ plain in cc))
+    (λ opened merged. cc)
 
 -- neither is one that is put on the queue of a group
 pub never_merged : (groups later : List ListenerState) (group : ℕ) (event : ℕ → Event) (given : Put)

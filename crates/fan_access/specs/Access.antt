@@ -9,10 +9,10 @@ use Rattle.fan_bits.specs.declared.outcome.StepOutcome.TheVariants as outcomes
 use Rattle.fan_bits.specs.declared.place.Place.{Place}
 use Rattle.fan_listener.specs.declared.answers.Answer.{Answer}
 use Rattle.fan_listener.specs.declared.answers.Answer.TheVariants as answers
-use Rattle.fan_listener.specs.declared.event.Event.{Event}
-use Rattle.fan_listener.specs.declared.queue.Put.{Put}
-use Rattle.fan_listener.specs.declared.queue.Put.TheVariants as puts
-use Rattle.fan_listener.specs.Events.{event_for}
+use Rattle.fan_event.specs.declared.event.Event.{Event}
+use Rattle.fan_queue.specs.declared.entry.Put.{Put}
+use Rattle.fan_queue.specs.declared.entry.Put.TheVariants as puts
+use Rattle.fan_event.specs.Events.{event_for}
 use Rattle.fan_listener.specs.Groups.{answer_from, put_to}
 use Rattle.fan_listener.specs.ListenerState.{ListenerState}
 

@@ -1,6 +1,6 @@
 // The listeners of all groups, as an access meets them.
 ghost use Rattle.std.specs.Prelude.{◌≡◌, ◌≤◌, ◌^◌, ℕ, List, true, false, IfOk, IfSome, OnErr};
-ghost use Rattle.fan_listener.specs.Events.{event_for};
+ghost use Rattle.fan_event.specs.Events.{event_for};
 ghost use Rattle.fan_listener.specs.Groups.{answer_from, listener_at, put_to};
 ghost use Rattle.fan_listener.specs.ListenerState.{ListenerState};
 

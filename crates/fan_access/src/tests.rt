@@ -2,7 +2,7 @@
 ghost use Rattle.std.specs.Prelude.{◌≡◌, ◌≤◌, ◌^◌, [], ◌∷◌, true, false, All, IfOk, IsTrue, OnErr};
 ghost use Rattle.fan_bits.specs.Marks.{IsMarkList, next_on};
 ghost use Rattle.fan_bits.specs.Places.{IsPlace};
-ghost use Rattle.fan_listener.specs.Events.{event_for};
+ghost use Rattle.fan_event.specs.Events.{event_for};
 ghost use Rattle.fan_listener.specs.Queue.{put};
 
 use super::*;

@@ -2,18 +2,19 @@
 use Rattle.std.proofs.Common.{◌≡◌, ◌∙◌, ℕ, ◌+◌, ◌<◌, ◌≤◌, Bool, true, false, cond, List, [], ◌∷◌, ◌++◌, append_assoc, append-nil, count_by, refl, ap, arith, ◌==◌}
 use Rattle.std.proofs.lemmas.Bool.Decides.{nat_tests}
 use Rattle.fan_fates.specs.Calls.{Call, Closes, Looks, Puts, Reads, Writes, after_calls, answers, answers_of, called}
-use Rattle.fan_fates.proofs.CallForms.{PutForm, ReadForm, WriteForm, answers_one, came_last, covered, fronted, joined, lost_first, put_form, read_form, shut, unanswered, unread, write_form, rest_left}
+use Rattle.fan_fates.proofs.CallForms.{PutForm, ReadForm, WriteForm, answers_one, came_last, covered, fronted, joined, lost_first, put_form, queued_in, read_form, shut, unanswered, unread, write_form, rest_left}
 use Rattle.fan_fates.proofs.Limits.{count_both, count_found, count_one}
 use Rattle.fan_lists.proofs.Counts.{count_by-cons}
 use Rattle.fan_lists.proofs.FirstLemmas.{count_by-change_first}
 use Rattle.fan_listener.specs.declared.answers.Pending.{Pending}
-use Rattle.fan_listener.specs.declared.event.Event.{Event}
-use Rattle.fan_listener.specs.declared.queue.Body.{Body}
-use Rattle.fan_listener.specs.declared.queue.Body.TheVariants as bodies
-use Rattle.fan_listener.specs.declared.queue.Entry.{Entry}
-use Rattle.fan_listener.specs.declared.queue.Put.{Put}
+use Rattle.fan_event.specs.declared.event.Event.{Event}
+use Rattle.fan_queue.specs.declared.entry.Body.{Body}
+use Rattle.fan_queue.specs.declared.entry.Body.TheVariants as bodies
+use Rattle.fan_queue.specs.declared.entry.Entry.{Entry}
+use Rattle.fan_queue.specs.declared.entry.Put.{Put}
+use Rattle.fan_queue.proofs.QueueLemmas.{number-merged}
 use Rattle.fan_listener.specs.ListenerState.{ListenerState, new_listener}
-use Rattle.fan_listener.specs.Queue.{merged, queued, takes}
+use Rattle.fan_queue.specs.Queue.{merged, queued, takes}
 use Rattle.fan_listener.specs.Records.{fd_after, next_fd_after, pending_of, pendings, read_front}
 use Rattle.fan_listener.specs.Responses.{answer_of, answered, closed_of, is_under}
 
@@ -45,7 +46,7 @@ given-by first number (bodies.Told event) rest fd more =
       before = λ below. grind (arith, nat_tests, count, more.before);
       later = λ above. grind (arith, nat_tests, count, more.later, more.rises);
     }
-given-by first number bodies.Overflow rest fd more = record {
+given-by first number bodies.Lost rest fd more = record {
   rises = more.rises;
   once = more.once;
   before = more.before;
@@ -167,7 +168,7 @@ fewer done done' old new same upto once = record {
 
 -- a new entry is in the queue alone
 once_queued : (done : List ℕ) (old : ListenerState) (body : Body) → Once done old
-    → Once done (queued old body)
+    → Once done (queued_in old body)
 unfolding queued
 once_queued done old body once =
     let new : Entry = record { number = old.next_entry; body = body } in record {
@@ -182,22 +183,17 @@ once_queued done old body once =
           grind (arith, nat_tests, counts, last, none);
     }
 
-number_kept : (event : Event) (number : ℕ) (entry : Entry)
-    → is_queued number (merged event entry) ≡ is_queued number entry
-unfolding merged
-number_kept event number entry = refl
-
 once_put : (done : List ℕ) (old : ListenerState) (event : Event) (given : Put × ListenerState)
     → PutForm old event given → Once done old → Once done given.1
 once_put done old event given (shut closed) once = once
 once_put done old event given (covered lost opened full is) once = once
-once_put done old event given (lost_first opened full none) once = once_queued done old bodies.Overflow once
+once_put done old event given (lost_first opened full none) once = once_queued done old bodies.Lost once
 once_put done old event given (came_last opened room none) once =
     once_queued done old (bodies.Told event) once
 once_put done old event given (joined same opened room is) once =
     fewer done done old _ refl (λ number.
     let counts = count_by-change_first (takes event) (is_queued number) (merged event) old.queue
-    (number_kept event number) in
+    (λ entry. ap (λ (n : ℕ). n == number) (number-merged event entry)) in
     omega (arith, counts)) once
 
 -- an entry that is read has one event wait at most
@@ -211,7 +207,7 @@ one_waits number first at (bodies.Told event) = by event.perm
         let one : Pending = record { fd = first; entry = at } in
         omega (arith, count_by-cons (waits number) one [])
     by false = omega arith
-one_waits number first at bodies.Overflow = omega arith
+one_waits number first at bodies.Lost = omega arith
 
 -- no more events wait than were read
 pub few_wait : (number first : ℕ) (entries : List Entry)

@@ -7,54 +7,62 @@ use Rattle.fan_lists.specs.First.{change_first}
 use Rattle.fan_listener.specs.declared.answers.Answered.{Answered}
 use Rattle.fan_listener.specs.declared.answers.Pending.{Pending}
 use Rattle.fan_listener.specs.declared.answers.Verdict.{Verdict}
-use Rattle.fan_listener.specs.declared.event.Event.{Event}
-use Rattle.fan_listener.specs.declared.queue.Body.TheVariants as bodies
-use Rattle.fan_listener.specs.declared.queue.Entry.{Entry}
-use Rattle.fan_listener.specs.declared.queue.Put.{Put}
-use Rattle.fan_listener.specs.declared.queue.Put.TheVariants as puts
+use Rattle.fan_event.specs.declared.event.Event.{Event}
+use Rattle.fan_queue.specs.declared.entry.Body.{Body}
+use Rattle.fan_queue.specs.declared.entry.Body.TheVariants as bodies
+use Rattle.fan_queue.specs.declared.entry.Entry.{Entry}
+use Rattle.fan_queue.specs.declared.entry.Put.{Put}
+use Rattle.fan_queue.specs.declared.entry.Put.TheVariants as puts
 use Rattle.fan_listener.specs.ListenerState.{ListenerState}
-use Rattle.fan_listener.specs.Queue.{is_full, is_overflow, merged, put, put_event, put_overflow, queued, takes}
+use Rattle.fan_listener.specs.Queue.{put, put_in, queue_of, with_queue}
+use Rattle.fan_queue.specs.Queue.{is_full, is_lost, merged, put as put_on, put_event, put_lost, queued, takes}
+use Rattle.fan_queue.specs.QueueState.{QueueState}
 use Rattle.fan_listener.specs.Records.{front_read, front_within, read_front, read_of, record_len}
 use Rattle.fan_listener.specs.Responses.{answered, entry_of, fd_in, is_under, responded, value_in, verdict, waiting_under, written}
+
+-- the listener with one entry more, queued last
+abbrev pub queued_in : ListenerState → Body → ListenerState
+queued_in old body = with_queue old (queued (queue_of old) body)
 
 -- what a put answers and leaves
 pub data PutForm (old : ListenerState) (event : Event) : Put × ListenerState → Type 0 where
   shut : old.closed ≡ true → PutForm old event (puts.Closed, old)
-  covered : (lost : Entry) → old.closed ≡ false → is_full old ≡ true → find is_overflow old.queue ≡ Some lost
-      → PutForm old event (puts.Overflow lost.number, old)
-  lost_first : old.closed ≡ false → is_full old ≡ true → find is_overflow old.queue ≡ None
-      → PutForm old event (puts.Overflow old.next_entry, queued old bodies.Overflow)
-  joined : (same : Entry) → old.closed ≡ false → is_full old ≡ false
+  covered : (lost : Entry) → old.closed ≡ false → is_full (queue_of old) ≡ true
+      → find is_lost old.queue ≡ Some lost → PutForm old event (puts.Overflow lost.number, old)
+  lost_first : old.closed ≡ false → is_full (queue_of old) ≡ true → find is_lost old.queue ≡ None
+      → PutForm old event (puts.Overflow old.next_entry, queued_in old bodies.Lost)
+  joined : (same : Entry) → old.closed ≡ false → is_full (queue_of old) ≡ false
       → find (takes event) old.queue ≡ Some same
       → PutForm old event (
         puts.Merged same.number,
         record old { queue = change_first (takes event) (merged event) old.queue },
       )
-  came_last : old.closed ≡ false → is_full old ≡ false → find (takes event) old.queue ≡ None
-      → PutForm old event (puts.Queued old.next_entry, queued old (bodies.Told event))
+  came_last : old.closed ≡ false → is_full (queue_of old) ≡ false → find (takes event) old.queue ≡ None
+      → PutForm old event (puts.Queued old.next_entry, queued_in old (bodies.Told event))
 
 module _ (old : ListenerState) (event : Event) where
-  overflow_form : (lost : Option Entry) → old.closed ≡ false → is_full old ≡ true
-      → find is_overflow old.queue ≡ lost → PutForm old event (put_overflow old lost)
-  overflow_form (Some lost) opened full is = covered lost opened full is
-  overflow_form None opened full is = lost_first opened full is
+  lost_form : (lost : Option Entry) → old.closed ≡ false → is_full (queue_of old) ≡ true
+      → find is_lost old.queue ≡ lost → PutForm old event (put_in old (put_lost (queue_of old) lost))
+  lost_form (Some lost) opened full is = covered lost opened full is
+  lost_form None opened full is = lost_first opened full is
 
-  event_form : (same : Option Entry) → old.closed ≡ false → is_full old ≡ false
-      → find (takes event) old.queue ≡ same → PutForm old event (put_event old event same)
+  event_form : (same : Option Entry) → old.closed ≡ false → is_full (queue_of old) ≡ false
+      → find (takes event) old.queue ≡ same
+      → PutForm old event (put_in old (put_event (queue_of old) event same))
   event_form (Some same) opened room is = joined same opened room is
   event_form None opened room is = came_last opened room is
 
-  put_by : (closed full : Bool) → old.closed ≡ closed → is_full old ≡ full
+  put_by : (closed full : Bool) → old.closed ≡ closed → is_full (queue_of old) ≡ full
       → PutForm old event (cond {A = Put × ListenerState} closed (puts.Closed, old)
-      (cond {A = Put × ListenerState} full (put_overflow old (find is_overflow old.queue))
-      (put_event old event (find (takes event) old.queue))))
+      (put_in old (cond {A = Put × QueueState} full (put_lost (queue_of old) (find is_lost old.queue))
+      (put_event (queue_of old) event (find (takes event) old.queue)))))
   put_by true full closed is = shut closed
-  put_by false true opened full = overflow_form (find is_overflow old.queue) opened full refl
+  put_by false true opened full = lost_form (find is_lost old.queue) opened full refl
   put_by false false opened room = event_form (find (takes event) old.queue) opened room refl
 
 pub put_form : (old : ListenerState) (event : Event) → PutForm old event (put old event)
-unfolding put
-put_form old event = put_by old event old.closed (is_full old) refl refl
+unfolding put put_on
+put_form old event = put_by old event old.closed (is_full (queue_of old)) refl refl
 
 -- a front and what follows it
 pub record Front (queue front : List Entry) : Type 0 where

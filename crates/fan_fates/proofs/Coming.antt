@@ -5,7 +5,7 @@ use Rattle.std.specs.Prelude.{slice_get}
 use Rattle.fan_access.specs.Access.{AccessState, Asking, Phase, Telling, Waiting, asks, event_of, tells}
 use Rattle.fan_access.specs.declared.turn.Turn.{Turn}
 use Rattle.fan_fates.specs.Calls.{Call, Came, Closes, Looks, Puts, Reads, Writes, after_calls, deeds, deeds_of}
-use Rattle.fan_fates.specs.Rules.{FindsClosed, IsQueued, NamesNext, is_lost}
+use Rattle.fan_fates.specs.Rules.{FindsClosed, IsQueued, NamesNext, is_lost_fate}
 use Rattle.fan_fates.specs.Steps.{access_calls, ask_calls, calls_at, deeds_at, deeds_by, deeds_in, only_of, phase_calls, queue_in, queue_of, step_calls, turn_calls}
 use Rattle.fan_fates.specs.Turns.{IsDue, IsFull}
 use Rattle.fan_fates.proofs.History.{History}
@@ -13,8 +13,8 @@ use Rattle.fan_fates.proofs.Lifted.{lifted}
 use Rattle.fan_fates.proofs.Lived.{lived}
 use Rattle.fan_fates.proofs.Puts.{put_closed, put_full, put_names, put_queued}
 use Rattle.fan_laws.specs.Causes.{HasNext}
-use Rattle.fan_listener.specs.declared.event.Event.{Event}
-use Rattle.fan_listener.specs.declared.queue.Put.{Put}
+use Rattle.fan_event.specs.declared.event.Event.{Event}
+use Rattle.fan_queue.specs.declared.entry.Put.{Put}
 use Rattle.fan_listener.specs.Groups.{is_open, listener_at}
 use Rattle.fan_listener.specs.ListenerState.{ListenerState}
 use Rattle.fan_listener.specs.Queue.{put}
@@ -195,9 +195,9 @@ module _ (before : List Step) (step : Step) (group : ℕ) (event : Event) (fate 
       (put_names (deeds_in group initial_world before) the_put.listener event past_of)
 
   -- an event is lost only at the limit
-  pub came_full : is_lost fate ≡ true → IsFull (after initial_world before) group
+  pub came_full : is_lost_fate fate ≡ true → IsFull (after initial_world before) group
   came_full is =
-      let full = put_full the_put.listener event (ap is_lost the_put.became ∙ is) in record {
+      let full = put_full the_put.listener event (ap is_lost_fate the_put.became ∙ is) in record {
         listener = the_put.listener;
         there = the_put.there;
         limited = full.limited;

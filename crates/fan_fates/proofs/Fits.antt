@@ -13,12 +13,12 @@ use Rattle.fan_fates.specs.Fates.{firsts, is_in, lost, lost_by, made, named, nam
 use Rattle.fan_fates.specs.Rules.{IsAlone, IsAloneIn}
 use Rattle.fan_fates.proofs.Lists.{All-first, All-middle, All-second, below_range, firsts_push, flat_map_push, is_in_middle, not_in, pairs_after, pairs_before, range_push, range_rises}
 use Rattle.fan_laws.specs.Whole.{numbers_in}
-use Rattle.fan_listener.specs.declared.event.Event.{Event}
-use Rattle.fan_listener.specs.declared.queue.Body.{Body}
-use Rattle.fan_listener.specs.declared.queue.Body.TheVariants as bodies
-use Rattle.fan_listener.specs.declared.queue.Entry.{Entry}
-use Rattle.fan_listener.specs.declared.queue.Put.{Put}
-use Rattle.fan_listener.specs.declared.queue.Put.TheVariants as puts
+use Rattle.fan_event.specs.declared.event.Event.{Event}
+use Rattle.fan_queue.specs.declared.entry.Body.{Body}
+use Rattle.fan_queue.specs.declared.entry.Body.TheVariants as bodies
+use Rattle.fan_queue.specs.declared.entry.Entry.{Entry}
+use Rattle.fan_queue.specs.declared.entry.Put.{Put}
+use Rattle.fan_queue.specs.declared.entry.Put.TheVariants as puts
 
 -- the entries made so far, in order, are those that fates name; each has the bits that they give it
 pub record Fits (deeds : List Deed) (entries : List Entry) (next : ℕ) : Type 0 where
@@ -173,7 +173,7 @@ bits_known deeds entry number has no_told no_lost same =
   where
     by : {some others : List Event} (body : Body) → HasBits some others body → some ≡ [] → others ≡ [] → ⊥
     by (bodies.Told event) has no_told no_lost = has.some no_told
-    by bodies.Overflow has no_told no_lost = has.1 no_lost
+    by bodies.Lost has no_told no_lost = has.1 no_lost
 
 -- numbers of entries with one more
 numbers_push : (entries : List Entry) (entry : Entry)
@@ -269,11 +269,11 @@ fits_queued deeds event entries next fits =
 pub fits_lost_first : (deeds : List Deed) (event : Event) (entries : List Entry) (next : ℕ)
     → Fits deeds entries next
     → Fits (deeds ++ Came event (puts.Overflow next) ∷ [])
-    (entries ++ (record { number = next; body = bodies.Overflow }) ∷ []) (next + 1)
+    (entries ++ (record { number = next; body = bodies.Lost }) ∷ []) (next + 1)
 unfolding KeepsAlone
 fits_lost_first deeds event entries next fits =
     let deed = Came event (puts.Overflow next) in
-    let body = bodies.Overflow in
+    let body = bodies.Lost in
     let entry : Entry = record { number = next; body = body } in
     let none = fits.fresh next (omega arith) in
     let told_it : told (deeds ++ deed ∷ []) next ≡ [] =
@@ -327,7 +327,7 @@ lost_bits deeds event number entry none has = by entry.body has
         let same : Entry = record { number = entry.number; body = bodies.Told whole } in
         bits_same deeds (Came event (puts.Overflow number)) same (untold_lost deeds event number entry.number
         (λ its. has.some (ap (told deeds) (sym its) ∙ none))) has
-    by bodies.Overflow has =
+    by bodies.Lost has =
         let deed = Came event (puts.Overflow number) in (
           told_push deeds deed entry.number ∙ append-nil (told deeds entry.number) ∙ has.0,
           λ nothing. some_more (lost deeds entry.number) (one_if (number == entry.number) event) has.1
@@ -335,7 +335,7 @@ lost_bits deeds event number entry none has = by entry.body has
         )
 
 pub fits_lost : (deeds : List Deed) (event : Event) (before later : List Entry) (entry : Entry) (next : ℕ)
-    → entry.body ≡ bodies.Overflow → Fits deeds (before ++ entry ∷ later) next
+    → entry.body ≡ bodies.Lost → Fits deeds (before ++ entry ∷ later) next
     → Fits (deeds ++ Came event (puts.Overflow entry.number) ∷ []) (before ++ entry ∷ later) next
 unfolding KeepsAlone
 fits_lost deeds event before later entry next overflows fits =

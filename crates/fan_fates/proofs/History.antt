@@ -1,36 +1,32 @@
 -- A listener after any calls, against what its events and entries went through: and what follows from this.
-use Rattle.std.proofs.Common.{◌≡◌, ◌∙◌, ℕ, ◌+◌, ◌-◌, ◌<◌, ◌==◌, Bool, true, false, not, ◌&&◌, ◌||◌, List, [], ◌∷◌, ◌++◌, append_assoc, append-nil, Option, Some, None, length, length-append, take, refl, ap, sym, subst, arith}
-use Rattle.std.proofs.lemmas.Bool.Decides.{nat_tests}
+use Rattle.std.proofs.Common.{◌≡◌, ◌∙◌, ℕ, ◌+◌, ◌-◌, ◌<◌, Bool, true, false, not, ◌&&◌, ◌||◌, List, [], ◌∷◌, ◌++◌, append_assoc, append-nil, length, length-append, take, refl, ap, sym, subst, arith}
 use Rattle.std.proofs.Math.Bool.{or-false, or-true}
 use Rattle.std.proofs.Math.Seq.{take-append_seam}
 use Rattle.std.proofs.lemmas.List.{length-map, map-append}
 use Rattle.std.proofs.lemmas.List.Elements.{All-nil}
 use Rattle.std.proofs.lemmas.List.Folds.{list_any-append}
-use Rattle.std.specs.Bool.{beq}
 use Rattle.std.specs.Int.RustNames.{bit_or}
 use Rattle.std.specs.List.{AllPairs, range_with_len}
 use Rattle.std.specs.List.Sorted.{IsStrictlyIncreasing}
-use Rattle.std.specs.Option.{option_eq}
-use Rattle.std.specs.Prelude.{nat_eq}
 use Rattle.fan_fates.specs.Calls.{Call, Came, Closes, Deed, Freed, Left, Looks, Puts, Reads, Writes, after_calls, called, deeds, deeds_of, gone}
 use Rattle.fan_fates.specs.Bits.{HasBitsIn, IsLike}
 use Rattle.fan_fates.specs.Fates.{frees, is_freed, left, left_in, made}
 use Rattle.fan_fates.specs.Rules.{IsAloneIn}
-use Rattle.fan_fates.proofs.CallForms.{PutForm, ReadForm, WriteForm, answers_one, came_last, covered, fronted, joined, lost_first, put_form, read_form, shut, unanswered, unread, write_form, rest_left}
+use Rattle.fan_fates.proofs.CallForms.{PutForm, ReadForm, WriteForm, answers_one, came_last, covered, fronted, joined, lost_first, put_form, queued_in, read_form, shut, unanswered, unread, write_form, rest_left}
 use Rattle.fan_fates.proofs.Fits.{Fits, fits_closed, fits_freed, fits_left, fits_lost, fits_lost_first, fits_merged, fits_queued, rising}
 use Rattle.fan_fates.proofs.Lists.{flat_map_push, found_split, pairs_first}
 use Rattle.fan_laws.specs.Whole.{numbers_in}
 use Rattle.fan_lists.specs.First.{change_first}
-use Rattle.fan_listener.specs.declared.event.Event.{Event}
-use Rattle.fan_listener.specs.declared.event.Target.{Target}
-use Rattle.fan_listener.specs.declared.event.Target.TheVariants.{Fd, Handle}
-use Rattle.fan_listener.specs.declared.queue.Body.{Body}
-use Rattle.fan_listener.specs.declared.queue.Body.TheVariants as bodies
-use Rattle.fan_listener.specs.declared.queue.Entry.{Entry}
-use Rattle.fan_listener.specs.declared.queue.Put.{Put}
-use Rattle.fan_listener.specs.declared.queue.Put.TheVariants as puts
+use Rattle.fan_event.specs.declared.event.Event.{Event}
+use Rattle.fan_queue.specs.declared.entry.Body.{Body}
+use Rattle.fan_queue.specs.declared.entry.Body.TheVariants as bodies
+use Rattle.fan_queue.specs.declared.entry.Entry.{Entry}
+use Rattle.fan_queue.specs.declared.entry.Put.{Put}
+use Rattle.fan_queue.specs.declared.entry.Put.TheVariants as puts
 use Rattle.fan_listener.specs.ListenerState.{ListenerState, new_listener}
-use Rattle.fan_listener.specs.Queue.{body_overflows, body_takes, is_overflow, merged, queued, same_key, same_target, takes, with_bits}
+use Rattle.fan_event.specs.Keys.{same_key}
+use Rattle.fan_event.proofs.KeyLemmas.{same_key_decides}
+use Rattle.fan_queue.specs.Queue.{body_is_lost, body_takes, is_lost, merged, queued, takes, with_more}
 use Rattle.fan_listener.specs.Records.{read_front}
 use Rattle.fan_listener.specs.Responses.{answer_of, closed_of}
 
@@ -57,7 +53,7 @@ unfolding takes
 taken_by event entry passes = by entry.body refl passes
   where
     by : (body : Body) → entry.body ≡ body → body_takes event body ≡ true → Taken event entry
-    by bodies.Overflow is passes = absurd cc
+    by bodies.Lost is passes = absurd cc
     by (bodies.Told old) is passes =
         let first = both_true (not event.perm && not old.perm) (same_key old event) passes in
         let second = both_true (not event.perm) (not old.perm) first.0 in record {
@@ -68,49 +64,13 @@ taken_by event entry passes = by entry.body refl passes
           key = first.1;
         }
 
-same_bool : (a b : Bool) → beq a b ≡ true → a ≡ b
-same_bool true true is = refl
-same_bool true false is = absurd cc
-same_bool false true is = absurd cc
-same_bool false false is = refl
-
-same_number : (a b : ℕ) → (a == b) ≡ true → a ≡ b
-same_number a b is = grind (arith, nat_tests, is)
-
-same_option : (a b : Option ℕ) → option_eq nat_eq a b ≡ true → a ≡ b
-same_option (Some a) (Some b) is = ap (λ (n : ℕ). Some n) (same_number a b is)
-same_option (Some a) None is = absurd cc
-same_option None (Some b) is = absurd cc
-same_option None None is = refl
-
-same_object : (a b : Target) → same_target a b ≡ true → a ≡ b
-same_object (Fd mount inode) (Fd mount' inode') is =
-    let both = both_true (mount == mount') (inode == inode') is in
-    let first = same_number mount mount' both.0 in
-    let second = same_number inode inode' both.1 in
-    cc
-same_object (Handle fs object dir) (Handle fs' object' dir') is =
-    let both = both_true ((fs == fs') && option_eq nat_eq object object') (option_eq nat_eq dir dir') is in
-    let those = both_true (fs == fs') (option_eq nat_eq object object') both.0 in
-    let first = same_number fs fs' those.0 in
-    let second = same_option object object' those.1 in
-    let third = same_option dir dir' both.1 in
-    cc
-same_object (Fd mount inode) (Handle fs object dir) is = absurd cc
-same_object (Handle fs object dir) (Fd mount inode) is = absurd cc
-
 -- two events with one key, neither of which asks permission, are alike
 pub alike : (old event : Event) → event.perm ≡ false → old.perm ≡ false → same_key old event ≡ true
     → IsLike old event
 alike old event notice unasked key =
-    let both = both_true ((old.who == event.who) && beq old.ondir event.ondir)
-    (same_target old.target event.target) key in
-    let those = both_true (old.who == event.who) (beq old.ondir event.ondir) both.0 in
-    let who = same_number old.who event.who those.0 in
-    let ondir = same_bool old.ondir event.ondir those.1 in
-    let target = same_object old.target event.target both.1 in
+    let same = (same_key_decides old event).0 key in
     let perm : old.perm ≡ event.perm = unasked ∙ sym notice in
-    rw (who, ondir, target, perm) refl
+    rw (same.who, same.ondir, same.target, perm) refl
 
 -- ---- what left a queue
 
@@ -148,9 +108,9 @@ history_came past event fate old new history same fits = record {
   closed = same ∙ history.closed ∙ sym (freed_push past (Came event fate) ∙ or-false (is_freed past));
 }
 
-pub overflows : (body : Body) → body_overflows body ≡ true → body ≡ bodies.Overflow
+pub overflows : (body : Body) → body_is_lost body ≡ true → body ≡ bodies.Lost
 overflows (bodies.Told event) is = absurd cc
-overflows bodies.Overflow is = refl
+overflows bodies.Lost is = refl
 
 abbrev pub entry_with : ℕ → Body → Entry
 entry_with number body = record { number = number; body = body }
@@ -163,7 +123,7 @@ pub merged_is : (event : Event) (entry : Entry) (old : Event) → entry.body ≡
     → merged event entry
     ≡ entry_with entry.number (bodies.Told (record old { bits = bit_or old.bits event.bits }))
 unfolding merged
-merged_is event entry old is = ap (λ (body : Body). entry_with entry.number (with_bits event.bits body)) is
+merged_is event entry old is = ap (λ (body : Body). entry_with entry.number (with_more event.bits body)) is
 
 history_put : (past : List Deed) (old : ListenerState) (event : Event) (given : Put × ListenerState)
     → PutForm old event given → History past old → History (past ++ Came event given.0 ∷ []) given.1
@@ -172,7 +132,7 @@ history_put past old event given (shut closed) history =
     history_came past event puts.Closed old old history refl
     (fits_closed past event (left past ++ old.queue) old.next_entry history.fits)
 history_put past old event given (covered lost opened full is) history =
-    let split = found_split is_overflow (λ (entry : Entry). entry) old.queue lost is in
+    let split = found_split is_lost (λ (entry : Entry). entry) old.queue lost is in
     let whole : left past ++ old.queue ≡ (left past ++ split.before) ++ lost ∷ split.later =
     ap (λ xs. left past ++ xs) split.whole
     ∙ sym (append_assoc (left past) split.before (lost ∷ split.later)) in
@@ -184,10 +144,10 @@ history_put past old event given (covered lost opened full is) history =
     (fits_lost past event (left past ++ split.before) split.later lost old.next_entry
     (overflows lost.body split.passes) fits))
 history_put past old event given (lost_first opened full none) history =
-    let entry : Entry = record { number = old.next_entry; body = bodies.Overflow } in
+    let entry : Entry = record { number = old.next_entry; body = bodies.Lost } in
     let fate = puts.Overflow old.next_entry in
     let deed = Came event fate in
-    history_came past event fate old (queued old bodies.Overflow) history refl
+    history_came past event fate old (queued_in old bodies.Lost) history refl
     (subst (λ xs. Fits (past ++ deed ∷ []) xs (old.next_entry + 1))
     (append_assoc (left past) old.queue (entry ∷ []))
     (fits_lost_first past event (left past ++ old.queue) old.next_entry history.fits))
@@ -195,7 +155,7 @@ history_put past old event given (came_last opened room none) history =
     let entry : Entry = record { number = old.next_entry; body = bodies.Told event } in
     let fate = puts.Queued old.next_entry in
     let deed = Came event fate in
-    history_came past event fate old (queued old (bodies.Told event)) history refl
+    history_came past event fate old (queued_in old (bodies.Told event)) history refl
     (subst (λ xs. Fits (past ++ deed ∷ []) xs (old.next_entry + 1))
     (append_assoc (left past) old.queue (entry ∷ []))
     (fits_queued past event (left past ++ old.queue) old.next_entry history.fits))

@@ -11,6 +11,6 @@ pub mod Reading
 pub mod CallForms
 pub mod Limits
 pub mod Answering
-pub mod Keys
+pub mod Queues
 pub mod ReadFirst
 pub mod Taking

@@ -12,7 +12,7 @@ use Rattle.fan_laws.proofs.Forms.{Form, has_stepped, step_form, was_closed, was_
 use Rattle.fan_laws.proofs.Listeners.{found_with, other_with}
 use Rattle.fan_laws.proofs.Moves.{Moves, called as one_called, calls, closes, open_is, opened_is, opens, stays, step_moves}
 use Rattle.fan_listener.specs.declared.answers.Answer.TheVariants as answers
-use Rattle.fan_listener.specs.declared.queue.Put.TheVariants as puts
+use Rattle.fan_queue.specs.declared.entry.Put.TheVariants as puts
 use Rattle.fan_listener.specs.Groups.{answer_from, called_at, closed_in, is_open, listener_at, open_listener, outcome_in, put_to, read_from, tried_at, with_listener, written_to}
 use Rattle.fan_listener.specs.ListenerState.{ListenerState, new_listener}
 use Rattle.fan_listener.specs.Queue.{put}

@@ -1,20 +1,21 @@
 -- What holds of a listener after any calls: its limit, its descriptors, and its answers.
-use Rattle.std.proofs.Common.{◌≡◌, ◌∙◌, ℕ, ◌+◌, ◌<◌, ◌≤◌, Bool, false, cond, not, ◌&&◌, List, [], ◌∷◌, ◌++◌, Some, length, length-append, find, count_by, refl, ap, arith, nat_le}
+use Rattle.std.proofs.Common.{◌≡◌, ◌∙◌, ℕ, ◌+◌, ◌<◌, ◌≤◌, Bool, true, false, cond, List, [], ◌∷◌, ◌++◌, Option, Some, None, length, length-append, find, count_by, refl, ap, arith}
 use Rattle.std.proofs.lemmas.Bool.Decides.{nat_tests}
 use Rattle.std.proofs.lemmas.List.Sums.{count_by-le-length, sum_by-append}
 use Rattle.fan_bits.specs.Words.{occurs, unlimited_queue}
 use Rattle.fan_fates.specs.Calls.{Call, Closes, Looks, Puts, Reads, Writes, after_calls, called}
 use Rattle.fan_fates.proofs.CallForms.{PutForm, ReadForm, WriteForm, answers_one, came_last, covered, fronted, joined, lost_first, put_form, read_form, shut, unanswered, unread, write_form, rest_left}
-use Rattle.fan_lists.proofs.Counts.{count_by-cons, count_from_none}
+use Rattle.fan_lists.proofs.Counts.{count_by-cons}
 use Rattle.fan_lists.proofs.FirstLemmas.{count_by-change_first, length-change_first}
 use Rattle.fan_lists.specs.First.{without_first}
-use Rattle.fan_listener.specs.declared.event.Event.{Event}
-use Rattle.fan_listener.specs.declared.queue.Body.{Body}
-use Rattle.fan_listener.specs.declared.queue.Body.TheVariants as bodies
-use Rattle.fan_listener.specs.declared.queue.Entry.{Entry}
-use Rattle.fan_listener.specs.declared.queue.Put.{Put}
+use Rattle.fan_event.specs.declared.event.Event.{Event}
+use Rattle.fan_queue.specs.declared.entry.Body.TheVariants as bodies
+use Rattle.fan_queue.specs.declared.entry.Entry.{Entry}
+use Rattle.fan_queue.specs.declared.entry.Put.{Put}
+use Rattle.fan_queue.proofs.QueueLemmas.{lost-merged}
 use Rattle.fan_listener.specs.ListenerState.{ListenerState, new_listener}
-use Rattle.fan_listener.specs.Queue.{body_overflows, is_full, is_overflow, merged, queued, takes, with_bits}
+use Rattle.fan_listener.specs.Queue.{queue_of}
+use Rattle.fan_queue.specs.Queue.{fills, is_full, is_lost, merged, queued, takes}
 use Rattle.fan_listener.specs.Records.{read_front}
 use Rattle.fan_listener.specs.Responses.{answer_of, closed_of}
 
@@ -43,59 +44,41 @@ count_found test p (y ∷ ys) x is =
 
 -- ---- the limit
 
-overflow_kept : (event : Event) (entry : Entry) → is_overflow (merged event entry) ≡ is_overflow entry
-unfolding merged
-overflow_kept event entry = by entry.body
-  where
-    by : (body : Body) → body_overflows (with_bits event.bits body) ≡ body_overflows body
-    by (bodies.Told old) = refl
-    by bodies.Overflow = refl
-
--- one overflow entry at most, and beside it as many entries as the limit
-pub record Limited (listener : ListenerState) : Type 0 where
-  pub one : count_by is_overflow listener.queue ≤ 1
-  pub within : occurs listener.flags unlimited_queue ≡ false
-      → length listener.queue ≤ listener.limit + count_by is_overflow listener.queue
+-- beside the lost entry, a queue with a limit has no more entries than this
+abbrev Limited : ListenerState → Type 0
+Limited listener = occurs listener.flags unlimited_queue ≡ false
+    → length listener.queue ≤ listener.limit + count_by is_lost listener.queue
 
 -- a queue that isn't full has fewer entries than the limit
-room_left : (old : ListenerState) → is_full old ≡ false → occurs old.flags unlimited_queue ≡ false
+room_left : (old : ListenerState) → is_full (queue_of old) ≡ false → occurs old.flags unlimited_queue ≡ false
     → length old.queue < old.limit
 unfolding is_full
 room_left old room limited = by (occurs old.flags unlimited_queue) limited room
   where
     by : (unlimited : Bool) → unlimited ≡ false
-        → (not unlimited && nat_le old.limit (length old.queue)) ≡ false → length old.queue < old.limit
-    by unlimited is none = grind (arith, nat_tests, is, none)
+        → fills (cond {A = Option ℕ} unlimited None (Some old.limit)) (length old.queue) ≡ false
+        → length old.queue < old.limit
+    by true is none = absurd cc
+    by false is none = grind (arith, nat_tests, none)
 
 limited_put : (old : ListenerState) (event : Event) (given : Put × ListenerState) → PutForm old event given
     → Limited old → Limited given.1
 unfolding queued
 limited_put old event given (shut closed) limited = limited
 limited_put old event given (covered lost opened full is) limited = limited
-limited_put old event given (lost_first opened full none) limited =
-    let new : Entry = record { number = old.next_entry; body = bodies.Overflow } in
-    let before : count_by is_overflow old.queue ≡ 0 = count_from_none is_overflow old.queue none in
-    let after = count_both is_overflow old.queue (new ∷ []) in
-    let last : count_by is_overflow (new ∷ []) ≡ 1 = count_one is_overflow new in
-    let longer = length-append old.queue (new ∷ []) in record {
-      one = omega (arith, before, after, last);
-      within = λ limits. let fits = limited.within limits in omega (arith, before, after, last, longer, fits);
-    }
-limited_put old event given (joined same opened room is) limited =
-    let counts =
-    count_by-change_first (takes event) is_overflow (merged event) old.queue (overflow_kept event) in
-    let longs = length-change_first (takes event) (merged event) old.queue in record {
-      one = omega (arith, counts, limited.one);
-      within = λ limits. let fits = limited.within limits in omega (arith, counts, longs, fits);
-    }
-limited_put old event given (came_last opened room none) limited =
+limited_put old event given (lost_first opened full none) limited = λ limits.
+    let new : Entry = record { number = old.next_entry; body = bodies.Lost } in
+    let after = count_both is_lost old.queue (new ∷ []) in
+    let last : count_by is_lost (new ∷ []) ≡ 1 = count_one is_lost new in
+    omega (arith, after, last, length-append old.queue (new ∷ []), limited limits)
+limited_put old event given (joined same opened room is) limited = λ limits.
+    let counts = count_by-change_first (takes event) is_lost (merged event) old.queue (lost-merged event) in
+    omega (arith, counts, length-change_first (takes event) (merged event) old.queue, limited limits)
+limited_put old event given (came_last opened room none) limited = λ limits.
     let new : Entry = record { number = old.next_entry; body = bodies.Told event } in
-    let after = count_both is_overflow old.queue (new ∷ []) in
-    let last : count_by is_overflow (new ∷ []) ≡ 0 = count_one is_overflow new in
-    let longer = length-append old.queue (new ∷ []) in record {
-      one = omega (arith, after, last, limited.one);
-      within = λ limits. let fits = room_left old room limits in omega (arith, after, last, longer, fits);
-    }
+    let after = count_both is_lost old.queue (new ∷ []) in
+    let last : count_by is_lost (new ∷ []) ≡ 0 = count_one is_lost new in
+    omega (arith, after, last, length-append old.queue (new ∷ []), room_left old room limits)
 
 limited_read : (old : ListenerState) (size : ℕ) (new : ListenerState) → ReadForm old size new
     → Limited old → Limited new
@@ -103,16 +86,13 @@ unfolding read_front
 limited_read old size new unread limited = limited
 limited_read old size new (fronted front its) limited =
     let left = rest_left old.queue front its in
-    let counts = ap (count_by is_overflow) its.whole ∙ count_both is_overflow front its.rest in
+    let counts = ap (count_by is_lost) its.whole ∙ count_both is_lost front its.rest in
     let longs = ap length its.whole ∙ length-append front its.rest in
-    let few = count_by-le-length is_overflow front in
-    let one_left : count_by is_overflow its.rest ≤ 1 = omega (arith, counts, limited.one) in
+    let few = count_by-le-length is_lost front in
     let fit_left : occurs old.flags unlimited_queue ≡ false
-    → length its.rest ≤ old.limit + count_by is_overflow its.rest =
-    λ limits. let fits = limited.within limits in omega (arith, counts, longs, few, fits) in record {
-      one = rw left one_left;
-      within = rw left fit_left;
-    }
+    → length its.rest ≤ old.limit + count_by is_lost its.rest =
+    λ limits. omega (arith, counts, longs, few, limited limits) in
+    rw left fit_left
 
 limited_called : (old : ListenerState) (call : Call) → Limited old → Limited (called old call)
 unfolding answer_of closed_of
@@ -122,9 +102,9 @@ limited_called old (Writes bytes) limited = by _ _ (write_form old bytes)
   where
     by : (new : ListenerState) (entries : List ℕ) → WriteForm old new entries → Limited new
     by new entries unanswered = limited
-    by new entries (answers_one fd verdict waiting is) = record { one = limited.one; within = limited.within }
-limited_called old (Looks entry) limited = record { one = limited.one; within = limited.within }
-limited_called old Closes limited = record { one = omega arith; within = λ limits. omega arith }
+    by new entries (answers_one fd verdict waiting is) = limited
+limited_called old (Looks entry) limited = limited
+limited_called old Closes limited = λ limits. omega arith
 
 limited_after : (calls : List Call) (old : ListenerState) → Limited old → Limited (after_calls old calls)
 unfolding after_calls
@@ -132,13 +112,9 @@ limited_after [] old limited = limited
 limited_after (call ∷ more) old limited =
     limited_after more (called old call) (limited_called old call limited)
 
-pub limited_new : (flags limit : ℕ) (calls : List Call)
-    → Limited (after_calls (new_listener flags limit) calls)
+limited_new : (flags limit : ℕ) (calls : List Call) → Limited (after_calls (new_listener flags limit) calls)
 unfolding new_listener
-limited_new flags limit calls = limited_after calls (new_listener flags limit) (record {
-  one = omega arith;
-  within = λ limits. omega arith;
-})
+limited_new flags limit calls = limited_after calls (new_listener flags limit) (λ limits. omega arith)
 
 -- ---- flags and limit
 
@@ -193,12 +169,12 @@ new_limit flags limit = refl
 
 pub within_new : (flags limit : ℕ) (calls : List Call) → occurs flags unlimited_queue ≡ false
     → length (after_calls (new_listener flags limit) calls).queue
-    ≤ limit + count_by is_overflow (after_calls (new_listener flags limit) calls).queue
+    ≤ limit + count_by is_lost (after_calls (new_listener flags limit) calls).queue
 within_new flags limit calls limits =
     let listener = after_calls (new_listener flags limit) calls in
     let same = same_after calls (new_listener flags limit) in
     let its_flags : listener.flags ≡ flags = same.flags ∙ new_flags flags limit in
     let its_limit : listener.limit ≡ limit = same.limit ∙ new_limit flags limit in
     let limits_it = ap (λ word. occurs word unlimited_queue) its_flags ∙ limits in
-    let fits = (limited_new flags limit calls).within limits_it in
+    let fits = limited_new flags limit calls limits_it in
     omega (arith, its_limit, fits)

@@ -1,7 +1,7 @@
 -- Lists that grow at their end, and numbers that come first in them.
 use Rattle.std.proofs.Common.{◌≡◌, ◌∙◌, ℕ, zero, suc, ◌+◌, ◌<◌, ◌≤◌, Bool, true, false, cond, not, ◌||◌, List, [], ◌∷◌, ◌++◌, append_assoc, append-nil, Some, find, refl, ap, sym, arith, ◌==◌}
 use Rattle.std.proofs.lemmas.Bool.Decides.{nat_tests}
-use Rattle.std.proofs.lemmas.List.Elements.{All-append, All-cons, All-head, All-nil, All-tail, All-weaker, filter-append}
+use Rattle.std.proofs.lemmas.List.Elements.{All-cons, All-head, All-nil, All-tail, All-weaker, filter-append}
 use Rattle.std.proofs.lemmas.List.Kept.{AllPairs-cons}
 use Rattle.std.specs.List.{AllPairs, flat_map, range_with_len}
 use Rattle.std.specs.Prelude.{All, filter}
@@ -97,12 +97,6 @@ module _ {X : Type 0} (P : X → Type 0) where
   pub All-middle : (xs ys : List X) (x : X) → All P (xs ++ x ∷ ys) → P x
   All-middle xs ys x each = All-head P x ys (All-second xs (x ∷ ys) each)
 
-  -- and of all with one changed
-  pub All-changed : (xs ys : List X) (x y : X) → All P (xs ++ x ∷ ys) → P y → All P (xs ++ y ∷ ys)
-  All-changed xs ys x y each new =
-      All-append P xs (y ∷ ys) (All-first xs (x ∷ ys) each)
-      (All-cons P y ys new (All-tail P x ys (All-second xs (x ∷ ys) each)))
-
 module _ {X : Type 0} (R : X → X → Type 0) where
   -- those before one stand so to it, and it to those after it
   pub pairs_before : (xs ys : List X) (x : X) → AllPairs R (xs ++ x ∷ ys) → All (λ other. R other x) xs
@@ -121,10 +115,6 @@ module _ {X : Type 0} (R : X → X → Type 0) where
   pairs_first (x ∷ xs) ys pairs =
       AllPairs-cons R x xs (All-first (R x) xs ys (AllPairs-head R x (xs ++ ys) pairs))
       (pairs_first xs ys (AllPairs-tail R x (xs ++ ys) pairs))
-
-  pub pairs_second : (xs ys : List X) → AllPairs R (xs ++ ys) → AllPairs R ys
-  pairs_second [] ys pairs = pairs
-  pairs_second (x ∷ xs) ys pairs = pairs_second xs ys (AllPairs-tail R x (xs ++ ys) pairs)
 
 -- ---- numbers that are counted
 

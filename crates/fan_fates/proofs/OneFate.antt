@@ -15,12 +15,13 @@ use Rattle.fan_fates.proofs.Lists.{found_split}
 use Rattle.fan_fates.proofs.Seen.{next_there, sees_from_first}
 use Rattle.fan_laws.specs.Causes.{HasNext, IsDueTo, PutsNext, is_group_open}
 use Rattle.fan_laws.proofs.Due.{reply_from_due}
-use Rattle.fan_listener.specs.declared.event.Event.{Event}
-use Rattle.fan_listener.specs.declared.queue.Put.{Put}
-use Rattle.fan_listener.specs.declared.queue.Put.TheVariants as puts
+use Rattle.fan_event.specs.declared.event.Event.{Event}
+use Rattle.fan_queue.specs.declared.entry.Put.{Put}
+use Rattle.fan_queue.specs.declared.entry.Put.TheVariants as puts
 use Rattle.fan_listener.specs.Groups.{called_at, if_open, listener_at, put_to}
 use Rattle.fan_listener.specs.ListenerState.{ListenerState}
-use Rattle.fan_listener.specs.Queue.{merged, put, takes}
+use Rattle.fan_listener.specs.Queue.{put}
+use Rattle.fan_queue.specs.Queue.{merged, takes}
 use Rattle.fan_machine.specs.Accesses.{access_of}
 use Rattle.fan_machine.specs.Next.{after}
 use Rattle.fan_machine.specs.World.{WorldState, initial_world}

@@ -10,11 +10,11 @@ use Rattle.fan_fates.proofs.Limits.{count_both, count_found, count_one}
 use Rattle.fan_fates.proofs.Lists.{flat_map_push}
 use Rattle.fan_laws.specs.Whole.{numbers_in}
 use Rattle.fan_lists.proofs.Counts.{any_from_count, count_by-cons, count_from_any}
-use Rattle.fan_listener.specs.declared.event.Event.{Event}
-use Rattle.fan_listener.specs.declared.queue.Entry.{Entry}
-use Rattle.fan_listener.specs.declared.queue.Put.{Put}
+use Rattle.fan_event.specs.declared.event.Event.{Event}
+use Rattle.fan_queue.specs.declared.entry.Entry.{Entry}
+use Rattle.fan_queue.specs.declared.entry.Put.{Put}
 use Rattle.fan_listener.specs.ListenerState.{ListenerState, new_listener}
-use Rattle.fan_listener.specs.Queue.{queued}
+use Rattle.fan_queue.specs.Queue.{queued}
 use Rattle.fan_listener.specs.Records.{pendings, read_front}
 use Rattle.fan_listener.specs.Responses.{answer_of, closed_of, is_under}
 

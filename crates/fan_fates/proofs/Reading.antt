@@ -15,13 +15,13 @@ use Rattle.fan_fates.proofs.History.{History, gone_is, overflows}
 use Rattle.fan_fates.proofs.Lists.{All-first, All-second}
 use Rattle.fan_fates.proofs.Lived.{lived}
 use Rattle.fan_laws.specs.Whole.{numbers_in}
-use Rattle.fan_listener.specs.declared.event.Event.{Event}
-use Rattle.fan_listener.specs.declared.queue.Body.{Body}
-use Rattle.fan_listener.specs.declared.queue.Body.TheVariants as bodies
-use Rattle.fan_listener.specs.declared.queue.Entry.{Entry}
+use Rattle.fan_event.specs.declared.event.Event.{Event}
+use Rattle.fan_queue.specs.declared.entry.Body.{Body}
+use Rattle.fan_queue.specs.declared.entry.Body.TheVariants as bodies
+use Rattle.fan_queue.specs.declared.entry.Entry.{Entry}
 use Rattle.fan_listener.specs.Groups.{listener_at, outcome_in, read_from, tried_at}
 use Rattle.fan_listener.specs.ListenerState.{ListenerState}
-use Rattle.fan_listener.specs.Queue.{is_overflow}
+use Rattle.fan_queue.specs.Queue.{is_lost}
 use Rattle.fan_listener.specs.Records.{fd_after, front_read, front_within, read_front, read_of, record_bytes, record_len, record_of, records}
 use Rattle.fan_machine.specs.Groups.{group_read}
 use Rattle.fan_machine.specs.Next.{after, attempted, next}
@@ -51,14 +51,14 @@ spelled told lost fd (bodies.Told event) has = record {
   pid = event.who;
   is = ap (λ (mask : ℕ). record_bytes mask (pos fd) event.who) (has.bits ∙ sym (mask_some told has.some));
 }
-spelled told lost fd bodies.Overflow has = record {
+spelled told lost fd bodies.Lost has = record {
   its_fd = negsuc 0;
   pid = 0;
   is = ap (λ (some : List Event). record_bytes (mask_of some) (negsuc 0) 0) (sym has.0);
 }
 
--- an overflow entry's bits are its own
-pub mask_overflows : (past : List Deed) (entry : Entry) → HasBitsIn past entry → is_overflow entry ≡ true
+-- the lost entry's bits are its own
+pub mask_overflows : (past : List Deed) (entry : Entry) → HasBitsIn past entry → is_lost entry ≡ true
     → mask_of (told past entry.number) ≡ overflow_bit
 mask_overflows past entry has is =
     let none =

@@ -4,10 +4,10 @@ use Rattle.std.specs.Int.RustNames.{bit_or}
 use Rattle.fan_bits.specs.MarkWords.{overflow_bit}
 use Rattle.fan_fates.specs.Calls.{Deed}
 use Rattle.fan_fates.specs.Fates.{lost, told}
-use Rattle.fan_listener.specs.declared.event.Event.{Event}
-use Rattle.fan_listener.specs.declared.queue.Body.{Body}
-use Rattle.fan_listener.specs.declared.queue.Body.TheVariants as bodies
-use Rattle.fan_listener.specs.declared.queue.Entry.{Entry}
+use Rattle.fan_event.specs.declared.event.Event.{Event}
+use Rattle.fan_queue.specs.declared.entry.Body.{Body}
+use Rattle.fan_queue.specs.declared.entry.Body.TheVariants as bodies
+use Rattle.fan_queue.specs.declared.entry.Entry.{Entry}
 use Rattle.fan_listener.specs.Records.{record_bytes}
 
 -- bits together with those of events
@@ -26,10 +26,10 @@ pub record StandsFor (event : Event) (told lost : List Event) : Type 0 where
   pub bits : event.bits ≡ with_all 0 told
   pub none_lost : lost ≡ []
 
--- the overflow entry stands for some events that were lost, and for no other
+-- the lost entry stands for some events that were lost, and for no other
 abbrev pub HasBits : List Event → List Event → Body → Type 0
 HasBits told lost (bodies.Told event) = StandsFor event told lost
-HasBits told lost bodies.Overflow = (told ≡ []) × (lost ≢ [])
+HasBits told lost bodies.Lost = (told ≡ []) × (lost ≢ [])
 
 -- an entry stands for the events whose fates name it
 abbrev pub HasBitsIn : List Deed → Entry → Type 0

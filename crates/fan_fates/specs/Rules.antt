@@ -4,13 +4,13 @@ use Rattle.std.specs.Int.RustNames.{bit_or}
 use Rattle.std.specs.List.{Contains}
 use Rattle.fan_fates.specs.Calls.{Came, Deed}
 use Rattle.fan_fates.specs.Fates.{is_freed, lost, told}
-use Rattle.fan_listener.specs.declared.event.Event.{Event}
-use Rattle.fan_listener.specs.declared.queue.Body.{Body}
-use Rattle.fan_listener.specs.declared.queue.Body.TheVariants as bodies
-use Rattle.fan_listener.specs.declared.queue.Entry.{Entry}
-use Rattle.fan_listener.specs.declared.queue.Put.{Put}
-use Rattle.fan_listener.specs.declared.queue.Put.TheVariants as puts
-use Rattle.fan_listener.specs.Queue.{same_key}
+use Rattle.fan_event.specs.declared.event.Event.{Event}
+use Rattle.fan_queue.specs.declared.entry.Body.{Body}
+use Rattle.fan_queue.specs.declared.entry.Body.TheVariants as bodies
+use Rattle.fan_queue.specs.declared.entry.Entry.{Entry}
+use Rattle.fan_queue.specs.declared.entry.Put.{Put}
+use Rattle.fan_queue.specs.declared.entry.Put.TheVariants as puts
+use Rattle.fan_event.specs.Keys.{same_key}
 
 -- a fate is that of an event whose group is closed
 abbrev pub is_closed : Put → Bool
@@ -22,9 +22,9 @@ abbrev pub FindsClosed : List Deed → Put → Type 0
 FindsClosed before fate = is_closed fate ≡ is_freed before
 
 -- a fate is that of a lost event
-abbrev pub is_lost : Put → Bool
-is_lost (puts.Overflow entry) = true
-is_lost _ = false
+abbrev pub is_lost_fate : Put → Bool
+is_lost_fate (puts.Overflow entry) = true
+is_lost_fate _ = false
 
 -- an event is queued as an entry that no fate has named, or merged into one that has events and covers none;
 -- and the entry that covers it, if it is lost, has no events
@@ -47,7 +47,7 @@ IsAloneIn deeds (Came event fate) = IsAlone deeds event fate
 IsAloneIn deeds _ = Unit {0}
 
 -- an event is in the queue as its fate says: as an entry of its own, or in one with its key and its bits; or
--- the overflow entry that covers it is there
+-- the lost entry that covers it is there
 abbrev pub IsQueued : List Entry → Event → Put → Type 0
 IsQueued queue event (puts.Queued number) =
     Contains queue (record { number = number; body = bodies.Told event })
@@ -55,7 +55,7 @@ IsQueued queue event (puts.Merged number) = (whole : Event)
     × Contains queue (record { number = number; body = bodies.Told whole })
     × (bit_or whole.bits event.bits ≡ whole.bits) × (same_key whole event ≡ true)
 IsQueued queue event (puts.Overflow number) =
-    Contains queue (record { number = number; body = bodies.Overflow })
+    Contains queue (record { number = number; body = bodies.Lost })
 IsQueued queue event puts.Closed = Unit {0}
 
 -- two bodies are not two events that would be merged

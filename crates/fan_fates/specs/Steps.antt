@@ -3,7 +3,7 @@ use Rattle.std.specs.Prelude.{ℕ, ◌==◌, Bool, true, false, List, [], ◌∷
 use Rattle.fan_access.specs.Access.{AccessState, Asking, Phase, Telling, Waiting, asks, event_of, tells}
 use Rattle.fan_access.specs.declared.turn.Turn.{Turn}
 use Rattle.fan_fates.specs.Calls.{Call, Closes, Deed, Looks, Puts, Reads, Writes, deeds}
-use Rattle.fan_listener.specs.declared.queue.Entry.{Entry}
+use Rattle.fan_queue.specs.declared.entry.Entry.{Entry}
 use Rattle.fan_listener.specs.Groups.{is_open, listener_at}
 use Rattle.fan_listener.specs.ListenerState.{ListenerState}
 use Rattle.fan_machine.specs.Accesses.{access_of}

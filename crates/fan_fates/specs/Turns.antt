@@ -8,9 +8,9 @@ use Rattle.fan_bits.specs.Words.{occurs, unlimited_queue}
 use Rattle.fan_fates.specs.Calls.{Call, Came, after_calls}
 use Rattle.fan_fates.specs.Steps.{deeds_by}
 use Rattle.fan_laws.specs.Causes.{HasNext}
-use Rattle.fan_listener.specs.declared.event.Event.{Event}
-use Rattle.fan_listener.specs.declared.queue.Put.{Put}
-use Rattle.fan_listener.specs.declared.queue.Put.TheVariants as puts
+use Rattle.fan_event.specs.declared.event.Event.{Event}
+use Rattle.fan_queue.specs.declared.entry.Put.{Put}
+use Rattle.fan_queue.specs.declared.entry.Put.TheVariants as puts
 use Rattle.fan_listener.specs.Groups.{listener_at}
 use Rattle.fan_listener.specs.ListenerState.{ListenerState, new_listener}
 use Rattle.fan_machine.specs.Accesses.{access_of}

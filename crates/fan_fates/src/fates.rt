@@ -5,12 +5,12 @@ ghost use Rattle.fan_access.specs.Access.{AccessState};
 ghost use Rattle.fan_access.specs.declared.turn.Turn.{Turn};
 ghost use Rattle.fan_fates.specs.Calls.{Came};
 ghost use Rattle.fan_fates.specs.Fates.{made};
-ghost use Rattle.fan_fates.specs.Rules.{FindsClosed, IsAloneIn, IsQueued, NamesNext, is_lost};
+ghost use Rattle.fan_fates.specs.Rules.{FindsClosed, IsAloneIn, IsQueued, NamesNext, is_lost_fate};
 ghost use Rattle.fan_fates.specs.Steps.{deeds_by, deeds_in, queue_in};
 ghost use Rattle.fan_fates.specs.Turns.{HasFate, IsDue, IsFull};
 ghost use Rattle.fan_laws.specs.Causes.{HasNext};
-ghost use Rattle.fan_listener.specs.declared.event.Event.{Event};
-ghost use Rattle.fan_listener.specs.declared.queue.Put.{Put};
+ghost use Rattle.fan_event.specs.declared.event.Event.{Event};
+ghost use Rattle.fan_queue.specs.declared.entry.Put.{Put};
 ghost use Rattle.fan_machine.specs.Accesses.{access_of};
 ghost use Rattle.fan_machine.specs.Next.{after, next};
 ghost use Rattle.fan_machine.specs.World.{WorldState, initial_world};
@@ -52,6 +52,6 @@ pub fn every_event_has_one_fate()
         FindsClosed (deeds_in group initial_world before) fate }
     ensures full { (before : List Step) (step : Step) (group : ℕ) (event : Event) (fate : Put) →
         let world = after initial_world before in
-        deeds_by world step group ≡ Came event fate ∷ [] → is_lost fate ≡ true →
+        deeds_by world step group ≡ Came event fate ∷ [] → is_lost_fate fate ≡ true →
         IsFull world group }
 {}

@@ -10,7 +10,7 @@ ghost use Rattle.fan_fates.specs.Turns.{IsMadeBy};
 ghost use Rattle.fan_laws.specs.Whole.{numbers_in};
 ghost use Rattle.fan_listener.specs.Groups.{listener_at};
 ghost use Rattle.fan_listener.specs.ListenerState.{new_listener};
-ghost use Rattle.fan_listener.specs.Queue.{is_overflow};
+ghost use Rattle.fan_queue.specs.Queue.{is_lost};
 ghost use Rattle.fan_listener.specs.Responses.{is_under};
 ghost use Rattle.fan_machine.specs.Next.{after};
 ghost use Rattle.fan_machine.specs.World.{initial_world};
@@ -24,18 +24,18 @@ pub fn listeners_change_by_calls()
         (listener_at (after initial_world steps).groups group) }
 {}
 
-/// After any calls of a new listener at most one overflow entry is queued (`one_overflow`), and
+/// After any calls of a new listener at most one lost entry is queued (`one_overflow`), and
 /// beside it no more entries than the limit, unless the queue is unlimited (`limited`). No two
 /// queued events could be merged (`keys_differ`). No two events wait under one descriptor
 /// (`descriptors_differ`). No entry is answered twice (`answered_once`), nor one that was not read
 /// (`answered_read`).
 pub fn listeners_keep_their_limits()
     ensures one_overflow { (flags limit : ℕ) (calls : List Call) →
-        count_by is_overflow (after_calls (new_listener flags limit) calls).queue ≤ 1 }
+        count_by is_lost (after_calls (new_listener flags limit) calls).queue ≤ 1 }
     ensures limited { (flags limit : ℕ) (calls : List Call) →
         let listener = after_calls (new_listener flags limit) calls in
         occurs flags unlimited_queue ≡ false →
-        length listener.queue ≤ limit + count_by is_overflow listener.queue }
+        length listener.queue ≤ limit + count_by is_lost listener.queue }
     ensures keys_differ { (flags limit : ℕ) (calls : List Call) →
         AllPairs HaveOwnKeys (after_calls (new_listener flags limit) calls).queue }
     ensures descriptors_differ { (flags limit : ℕ) (calls : List Call) (fd : ℕ) →

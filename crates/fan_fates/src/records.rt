@@ -5,7 +5,7 @@ ghost use Rattle.fan_fates.specs.Bits.{AreRecords, HasBitsIn, mask_of};
 ghost use Rattle.fan_fates.specs.Fates.{left, told};
 ghost use Rattle.fan_fates.specs.Steps.{deeds_by, deeds_in, queue_in};
 ghost use Rattle.fan_laws.specs.Whole.{numbers_in};
-ghost use Rattle.fan_listener.specs.Queue.{is_overflow};
+ghost use Rattle.fan_queue.specs.Queue.{is_lost};
 ghost use Rattle.fan_machine.specs.Next.{after, next};
 ghost use Rattle.fan_machine.specs.World.{initial_world};
 ghost use Rattle.fan_script.specs.declared.step.Step.{Step};
@@ -14,7 +14,7 @@ use fan_script::{Reply, Step};
 
 /// An entry that left a queue, or is still there, has the bits of all events that were queued as it
 /// or merged into it, or covers lost events and has no other (`bits`). A read gives the records of
-/// the entries that leave by it, in order, each with those bits (`records`); the overflow entry's
+/// the entries that leave by it, in order, each with those bits (`records`); the lost entry's
 /// has FAN_Q_OVERFLOW alone (`overflow_bits`).
 pub fn records_have_the_bits_told()
     ensures bits { (steps : List Step) (group : ℕ) →
@@ -28,6 +28,6 @@ pub fn records_have_the_bits_told()
         AreRecords (map (λ number. mask_of (told deeds number)) (numbers_in read)) bytes }
     ensures overflow_bits { (steps : List Step) (group : ℕ) →
         let deeds = deeds_in group initial_world steps in
-        All (λ entry. is_overflow entry ≡ true → mask_of (told deeds entry.number) ≡ overflow_bit)
+        All (λ entry. is_lost entry ≡ true → mask_of (told deeds entry.number) ≡ overflow_bit)
         (left deeds ++ queue_in (after initial_world steps) group) }
 {}

@@ -1,5 +1,5 @@
 -- What calls of a listener leave of whether it is open, and how many groups are open afterwards.
-use Rattle.std.proofs.Common.{◌≡◌, ℕ, zero, suc, ◌+◌, List, [], ◌∷◌, ◌++◌, Bool, true, false, cond, not, Option, Some, None, Result, Ok, Err, refl, sym, ap, ◌∙◌, arith, set, nat_lt, length, ◌==◌, find, ◌<◌, get_or}
+use Rattle.std.proofs.Common.{◌≡◌, ℕ, zero, suc, ◌+◌, List, [], ◌∷◌, ◌++◌, Bool, true, false, cond, not, Option, Some, None, Result, Ok, Err, refl, sym, ap, ◌∙◌, arith, set, nat_lt, length, ◌==◌, ◌<◌, get_or}
 use Rattle.std.specs.Prelude.{slice_get, count_by, IfOk, OnErr}
 use Rattle.std.proofs.lemmas.Option.{slice_get-get_or}
 use Rattle.std.proofs.lemmas.List.Sums.{sum_by-append, sum_by-cons}
@@ -7,39 +7,20 @@ use Rattle.fan_io.specs.declared.NoMemory.{NoMemory}
 use Rattle.fan_listener.specs.declared.answers.Answer.{Answer}
 use Rattle.fan_listener.specs.declared.answers.Answered.{Answered}
 use Rattle.fan_listener.specs.declared.answers.Verdict.{Verdict}
-use Rattle.fan_listener.specs.declared.event.Event.{Event}
-use Rattle.fan_listener.specs.declared.queue.Entry.{Entry}
-use Rattle.fan_listener.specs.declared.queue.Put.{Put}
+use Rattle.fan_event.specs.declared.event.Event.{Event}
+use Rattle.fan_queue.specs.declared.entry.Put.{Put}
 use Rattle.fan_listener.specs.Groups.{is_open}
 use Rattle.fan_listener.specs.ListenerState.{ListenerState, new_listener}
-use Rattle.fan_listener.specs.Queue.{put, put_event, put_overflow, queued, is_full, is_overflow, takes}
+use Rattle.fan_listener.specs.Queue.{put}
+use Rattle.fan_listener.proofs.PutLemmas.{by_put_to}
 use Rattle.fan_listener.specs.Records.{read_of, read_front, record_len}
 use Rattle.fan_listener.specs.Responses.{written, responded, waiting_under, verdict, fd_in, value_in, answer_of, closed_of}
 
-either : (b : Bool) (listener : ListenerState) (left right : Put × ListenerState)
-    → left.1.closed ≡ listener.closed → right.1.closed ≡ listener.closed → (cond b left right).1.closed ≡ listener.closed
-either true listener left right here there = here
-either false listener left right here there = there
-
-closed-put_overflow : (listener : ListenerState) (entry : Option Entry)
-    → (put_overflow listener entry).1.closed ≡ listener.closed
-unfolding queued
-closed-put_overflow listener (Some entry) = refl
-closed-put_overflow listener None = refl
-
-closed-put_event : (listener : ListenerState) (event : Event) (entry : Option Entry)
-    → (put_event listener event entry).1.closed ≡ listener.closed
-unfolding queued
-closed-put_event listener event (Some entry) = refl
-closed-put_event listener event None = refl
-
 -- a put leaves a listener open or closed
 pub closed-put : (listener : ListenerState) (event : Event) → (put listener event).1.closed ≡ listener.closed
-unfolding put
 closed-put listener event =
-    either listener.closed listener _ _ refl
-    (either (is_full listener) listener _ _ (closed-put_overflow listener (find is_overflow listener.queue))
-    (closed-put_event listener event (find (takes event) listener.queue)))
+    by_put_to (λ r. r.1.closed ≡ listener.closed) listener event (λ closed. refl) (λ entry opened. refl)
+    (λ opened. refl) (λ entry opened plain. refl) (λ opened. refl)
 
 -- and so does the taking of an answer
 pub closed-answer_of : (listener : ListenerState) (entry : ℕ) → (answer_of listener entry).1.closed ≡ listener.closed

@@ -2,7 +2,7 @@
 ghost use Rattle.std.specs.Prelude.{◌≡◌, ◌≢◌, ℕ, ◌+◌, ◌-◌, ◌<◌, ◌≤◌, ◌^◌, ◌++◌, ◌∷◌, [], is_some, Ok, Err, Some, None, true, false, length, IfOk, IfErr, IfSome, IsOk, IsTrue, OnErr, OnOk, count_by};
 ghost use Rattle.std.specs.Option.{option_copied};
 ghost use Rattle.fan_groups.specs.Bounds.{AreBounded};
-ghost use Rattle.fan_listener.specs.Events.{event_for};
+ghost use Rattle.fan_event.specs.Events.{event_for};
 ghost use Rattle.fan_listener.specs.Groups.{answer_from, closed_in, is_open, listener_at, open_listener, put_to, read_from, written_to};
 ghost use Rattle.fan_listener.specs.ListenerState.{new_listener};
 ghost use Rattle.fan_listener.specs.Refusals.{read_errno};
@@ -59,7 +59,9 @@ impl Groups {
 
     /// Makes a group with these flags and this limit of its queue, and gives its number.
     pub fn make(&mut self, init: InitWords, limit: u32) -> Result<u32, NoMemory>
-        requires { length self.old < 2 ^ 30 }
+        requires few { length self.old < 2 ^ 30 }
+        requires some { 1 ≤ limit }
+        requires most { limit ≤ 16384 }
         ensures ok { OnOk result (self.new ≡ self.old ++ new_listener init.bits limit ∷ []) }
         ensures number { IfOk result (λ group. group ≡ length self.old + 1) }
         ensures bounds { (calls : ℕ) → AreBounded calls self.old → AreBounded (calls + 1) self.new }

@@ -1,7 +1,7 @@
 // The listeners of all groups, and calls of the one at an index.
 ghost use Rattle.std.specs.Prelude.{◌≡◌, ◌+◌, ◌-◌, ◌<◌, ◌≤◌, ◌^◌, ◌++◌, ℕ, Ok, Err, Some, None, true, false, length, slice_get, slice_set, IfOk, IfErr, IfSome, IfNone, IsOk, OnErr, count_by};
 ghost use Rattle.fan_groups.specs.Bounds.{AreBounded};
-ghost use Rattle.fan_listener.specs.Events.{event_for};
+ghost use Rattle.fan_event.specs.Events.{event_for};
 ghost use Rattle.fan_listener.specs.Groups.{called_at, is_open, listener_at, open_listener, tried_at};
 ghost use Rattle.fan_listener.specs.Queue.{put};
 ghost use Rattle.fan_listener.specs.Records.{read_of};

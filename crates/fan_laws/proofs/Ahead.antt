@@ -9,8 +9,8 @@ use Rattle.fan_bits.specs.Outcomes.{asked_by, ends_access, is_denial, settles, t
 use Rattle.fan_lists.proofs.Places.{drop_end, drop_next}
 use Rattle.fan_listener.specs.declared.answers.Answer.{Answer}
 use Rattle.fan_listener.specs.declared.answers.Answer.TheVariants as answers
-use Rattle.fan_listener.specs.declared.queue.Put.{Put}
-use Rattle.fan_listener.specs.declared.queue.Put.TheVariants as puts
+use Rattle.fan_queue.specs.declared.entry.Put.{Put}
+use Rattle.fan_queue.specs.declared.entry.Put.TheVariants as puts
 use Rattle.fan_listener.specs.Groups.{answer_from, put_to}
 use Rattle.fan_listener.specs.ListenerState.{ListenerState}
 use Rattle.fan_laws.specs.InOrder.{AsksThenTells, TellsInOrder}

@@ -1,6 +1,6 @@
 -- Each outcome of a single step has its cause, and each cause gives its outcome.
 use Rattle.std.proofs.Common.{◌≡◌, ◌∙◌, ℕ, Bool, true, false, cond, not, List, [], ◌∷◌, Option, Some, None, refl, sym, ap, slice_get, inl, inr}
-use Rattle.std.specs.Prelude.{find, is_some}
+use Rattle.std.specs.Prelude.{is_some}
 use Rattle.fan_access.specs.Access.{AccessState, Asking, Phase, Stepped, Telling, Waiting, access_step, answered_outcome, asked, asked_outcome, asks, asks_next, event_of, looked, step_at, tells, tells_next, told, told_outcome}
 use Rattle.fan_access.specs.declared.turn.Turn.{Turn}
 use Rattle.fan_bits.specs.declared.outcome.StepOutcome.{StepOutcome}
@@ -9,15 +9,13 @@ use Rattle.fan_listener.specs.declared.answers.Answer.{Answer}
 use Rattle.fan_listener.specs.declared.answers.Verdict.{Verdict}
 use Rattle.fan_listener.specs.declared.answers.Verdict.TheVariants.{Allow, Deny}
 use Rattle.fan_listener.specs.declared.answers.Answer.TheVariants as answers
-use Rattle.fan_listener.specs.declared.event.Event.{Event}
-use Rattle.fan_listener.specs.declared.queue.Body.{Body}
-use Rattle.fan_listener.specs.declared.queue.Body.TheVariants as bodies
-use Rattle.fan_listener.specs.declared.queue.Entry.{Entry}
-use Rattle.fan_listener.specs.declared.queue.Put.{Put}
-use Rattle.fan_listener.specs.declared.queue.Put.TheVariants as puts
+use Rattle.fan_event.specs.declared.event.Event.{Event}
+use Rattle.fan_queue.specs.declared.entry.Put.{Put}
+use Rattle.fan_queue.specs.declared.entry.Put.TheVariants as puts
 use Rattle.fan_listener.specs.Groups.{answer_from, called_at, if_open, is_open, listener_at, put_to}
 use Rattle.fan_listener.specs.ListenerState.{ListenerState}
-use Rattle.fan_listener.specs.Queue.{body_takes, is_full, is_overflow, put, put_event, put_overflow, takes}
+use Rattle.fan_listener.specs.Queue.{put}
+use Rattle.fan_listener.proofs.PutLemmas.{by_put_to}
 use Rattle.fan_listener.specs.Responses.{answer_of, answer_or_closed}
 use Rattle.fan_machine.specs.Accesses.{access_of, advanced}
 use Rattle.fan_machine.specs.Next.{attempted, next}
@@ -35,46 +33,12 @@ MayBecome opened perm (puts.Merged entry) = (opened ≡ true) × (perm ≡ false
 MayBecome opened perm (puts.Overflow entry) = opened ≡ true
 MayBecome opened perm puts.Closed = opened ≡ false
 
-overflow_may : (listener : ListenerState) (perm : Bool) (lost : Option Entry)
-    → MayBecome true perm (put_overflow listener lost).0
-overflow_may listener perm None = refl
-overflow_may listener perm (Some entry) = refl
-
-event_may : (listener : ListenerState) (event : Event) (same : Option Entry) → (event.perm ≡ true → same
-    ≡ None)
-    → MayBecome true event.perm (put_event listener event same).0
-event_may listener event None none = refl
-event_may listener event (Some entry) none = (refl, unasked event.perm none)
-  where
-    unasked : (perm : Bool) → (perm ≡ true → Some entry ≡ None) → perm ≡ false
-    unasked true none = let never = none refl in absurd cc
-    unasked false none = refl
-
--- no entry takes an event that asks permission
-body_takes_none : (event : Event) (body : Body) → event.perm ≡ true → body_takes event body ≡ false
-body_takes_none event (bodies.Told old) asks = rw asks refl
-body_takes_none event bodies.Overflow asks = refl
-
-takes_none : (event : Event) (queue : List Entry) → event.perm ≡ true → find (takes event) queue ≡ None
-unfolding takes
-takes_none event [] asks = refl
-takes_none event (entry ∷ queue) asks = rw (body_takes_none event entry.body asks)
-    (takes_none event queue asks)
-
-put_by : (closed full : Bool) (listener : ListenerState) (event : Event) (lost same : Option Entry)
-    → (event.perm ≡ true → same ≡ None)
-    → MayBecome (not closed) event.perm (cond {A = Put × ListenerState} closed (puts.Closed, listener)
-    (cond {A = Put × ListenerState} full (put_overflow listener lost) (put_event listener event same))).0
-put_by true full listener event lost same none = refl
-put_by false true listener event lost same none = overflow_may listener event.perm lost
-put_by false false listener event lost same none = event_may listener event same none
-
 put_may : (listener : ListenerState) (event : Event) → MayBecome (is_open listener) event.perm
     (put listener event).0
-unfolding put
 put_may listener event =
-    put_by listener.closed (is_full listener) listener event (find is_overflow listener.queue)
-    (find (takes event) listener.queue) (takes_none event listener.queue)
+    by_put_to (λ r. MayBecome (is_open listener) event.perm r.0) listener event (λ closed. rw closed refl)
+    (λ entry opened. rw opened refl) (λ opened. rw opened refl) (λ entry opened plain. rw opened (refl, plain))
+    (λ opened. rw opened refl)
 
 if_open_is : (listener : ListenerState) → is_some (if_open (Some listener)) ≡ is_open listener
 if_open_is listener =

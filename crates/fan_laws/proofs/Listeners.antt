@@ -6,7 +6,7 @@ use Rattle.std.proofs.lemmas.List.Elements.{All-cons, All-drop, All-nil, All-pus
 use Rattle.std.proofs.lemmas.List.Kept.{AllPairs-cons}
 use Rattle.std.proofs.lemmas.List.Sums.{sum_by-append}
 use Rattle.std.specs.List.{AllPairs}
-use Rattle.std.specs.Prelude.{◌==◌, All, count_by, find, nat_lt, slice_get}
+use Rattle.std.specs.Prelude.{◌==◌, All, count_by, nat_lt, slice_get}
 use Rattle.fan_bits.specs.declared.class.Class.{Class}
 use Rattle.fan_bits.specs.declared.errno.Errno.{Errno}
 use Rattle.fan_bits.specs.declared.errno.Errno.TheVariants as errno
@@ -17,16 +17,16 @@ use Rattle.fan_lists.proofs.Places.{All-slice_get}
 use Rattle.fan_listener.specs.declared.answers.Answered.{Answered}
 use Rattle.fan_listener.specs.declared.answers.Kept.{Kept as KeptVerdict}
 use Rattle.fan_listener.specs.declared.answers.Verdict.{Verdict}
-use Rattle.fan_listener.specs.declared.event.Event.{Event}
-use Rattle.fan_listener.specs.declared.queue.Body.{Body}
-use Rattle.fan_listener.specs.declared.queue.Body.TheVariants.{Overflow, Told}
-use Rattle.fan_listener.specs.declared.queue.Entry.{Entry}
-use Rattle.fan_listener.specs.declared.queue.Put.{Put}
-use Rattle.fan_listener.specs.declared.queue.Put.TheVariants as puts
+use Rattle.fan_event.specs.declared.event.Event.{Event}
+use Rattle.fan_queue.specs.declared.entry.Body.{Body}
+use Rattle.fan_queue.specs.declared.entry.Body.TheVariants.{Lost, Told}
+use Rattle.fan_queue.specs.declared.entry.Entry.{Entry}
 use Rattle.fan_lists.specs.First.{change_first}
 use Rattle.fan_listener.specs.Groups.{is_open, listener_at, with_listener}
 use Rattle.fan_listener.specs.ListenerState.{ListenerState, new_listener}
-use Rattle.fan_listener.specs.Queue.{is_full, is_overflow, merged, put, put_event, put_overflow, queued, takes}
+use Rattle.fan_listener.specs.Queue.{queue_of, with_queue}
+use Rattle.fan_listener.proofs.PutLemmas.{by_put_to}
+use Rattle.fan_queue.specs.Queue.{merged, queued, takes}
 use Rattle.fan_listener.specs.Records.{front_read, front_within, read_front, read_of, record_len}
 use Rattle.fan_listener.specs.Responses.{answer_of, answered, closed_of, fd_in, responded, value_in, verdict, waiting_under, written}
 use Rattle.fan_machine.specs.Groups.{max_open_groups}
@@ -118,7 +118,7 @@ pub record Leaves (old new : ListenerState) : Type 0 where
 -- what holds of what each call may leave holds of what a call leaves
 pub record Kept (P : ListenerState → Type 0) (old : ListenerState) : Type 0 where
   pub same : P old
-  pub longer : (body : Body) → P (queued old body)
+  pub longer : (body : Body) → P (with_queue old (queued (queue_of old) body))
   pub joined : (event : Event) → P (record old {
     queue = change_first (takes event)
         (merged event) old.queue;
@@ -128,21 +128,6 @@ pub record Kept (P : ListenerState → Type 0) (old : ListenerState) : Type 0 wh
   pub taken : (kept : List KeptVerdict) → P (record old { answers = kept })
 
 module _ (P : ListenerState → Type 0) (old : ListenerState) (kept : Kept P old) where
-  overflow_kept : (lost : Option Entry) → P (put_overflow old lost).1
-  overflow_kept None = kept.longer Overflow
-  overflow_kept (Some entry) = kept.same
-
-  event_kept : (event : Event) (same : Option Entry) → P (put_event old event same).1
-  event_kept event None = kept.longer (Told event)
-  event_kept event (Some entry) = kept.joined event
-
-  put_by : (closed full : Bool) (event : Event) (lost same : Option Entry)
-      → P (cond {A = Put × ListenerState} closed (puts.Closed, old)
-      (cond {A = Put × ListenerState} full (put_overflow old lost) (put_event old event same))).1
-  put_by true full event lost same = kept.same
-  put_by false true event lost same = overflow_kept lost
-  put_by false false event lost same = event_kept event same
-
   read_by : (a b c : Bool) (size : ℕ) (given : List ℕ × ListenerState)
       → cond {A = Result (List ℕ × ListenerState) Errno} a (Err errno.Ebadf)
       (cond {A = Result (List ℕ × ListenerState) Errno} b (Err errno.Eagain)
@@ -176,9 +161,10 @@ module _ (P : ListenerState → Type 0) (old : ListenerState) (kept : Kept P old
   written_by false false fd verdict waiting given is = responded_by fd verdict waiting given is
 
   pub called_kept : (new : ListenerState) → Called old new → P new
-  unfolding put read_of written answer_of
+  unfolding read_of written answer_of
   called_kept new (put_one event) =
-      put_by old.closed (is_full old) event (find is_overflow old.queue) (find (takes event) old.queue)
+      by_put_to (λ r. P r.1) old event (λ closed. kept.same) (λ entry opened. kept.same)
+      (λ opened. kept.longer Lost) (λ entry opened plain. kept.joined event) (λ opened. kept.longer (Told event))
   called_kept new (read_some size given is) =
       read_by old.closed (length old.queue == 0) (nat_lt size record_len) size given is
   called_kept new (wrote bytes given is) =

@@ -6,8 +6,8 @@ use Rattle.fan_access.specs.declared.turn.Turn.{Turn}
 use Rattle.fan_bits.specs.declared.errno.Errno.{Errno}
 use Rattle.fan_listener.specs.declared.answers.Answer.TheVariants as answers
 use Rattle.fan_listener.specs.declared.answers.Answered.{Answered}
-use Rattle.fan_listener.specs.declared.event.Event.{Event}
-use Rattle.fan_listener.specs.declared.queue.Put.TheVariants as puts
+use Rattle.fan_event.specs.declared.event.Event.{Event}
+use Rattle.fan_queue.specs.declared.entry.Put.TheVariants as puts
 use Rattle.fan_listener.specs.Groups.{answer_from, called_at, closed_in, if_open, is_open, listener_at, open_listener, outcome_in, put_to, read_from, tried_at, with_listener, written_to}
 use Rattle.fan_listener.specs.ListenerState.{ListenerState, new_listener}
 use Rattle.fan_listener.specs.Queue.{put}

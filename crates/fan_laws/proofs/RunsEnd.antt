@@ -11,8 +11,8 @@ use Rattle.fan_bits.specs.declared.outcome.StepOutcome.TheVariants as outcomes
 use Rattle.fan_bits.specs.Outcomes.{ends_access, ends_run}
 use Rattle.fan_listener.specs.declared.answers.Answer.{Answer}
 use Rattle.fan_listener.specs.declared.answers.Answer.TheVariants as answers
-use Rattle.fan_listener.specs.declared.queue.Put.{Put}
-use Rattle.fan_listener.specs.declared.queue.Put.TheVariants as puts
+use Rattle.fan_queue.specs.declared.entry.Put.{Put}
+use Rattle.fan_queue.specs.declared.entry.Put.TheVariants as puts
 use Rattle.fan_listener.specs.Groups.{answer_from, put_to}
 use Rattle.fan_listener.specs.ListenerState.{ListenerState}
 use Rattle.fan_machine.specs.Accesses.{access_of, advanced}

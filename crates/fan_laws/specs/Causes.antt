@@ -6,8 +6,8 @@ use Rattle.fan_bits.specs.declared.outcome.StepOutcome.{StepOutcome}
 use Rattle.fan_bits.specs.declared.outcome.StepOutcome.TheVariants as outcomes
 use Rattle.fan_listener.specs.declared.answers.Verdict.{Verdict}
 use Rattle.fan_listener.specs.declared.answers.Verdict.TheVariants.{Allow, Deny}
-use Rattle.fan_listener.specs.declared.queue.Put.{Put}
-use Rattle.fan_listener.specs.declared.queue.Put.TheVariants as puts
+use Rattle.fan_queue.specs.declared.entry.Put.{Put}
+use Rattle.fan_queue.specs.declared.entry.Put.TheVariants as puts
 use Rattle.fan_listener.specs.Groups.{listener_at, open_listener, put_to}
 use Rattle.fan_listener.specs.ListenerState.{ListenerState}
 use Rattle.fan_listener.specs.Responses.{is_to, verdict_in}

@@ -9,7 +9,7 @@ use Rattle.fan_bits.specs.declared.class.Class.{Class}
 use Rattle.fan_bits.specs.declared.mark.Mark.{Mark}
 use Rattle.fan_bits.specs.Marks.{Rises, stands}
 use Rattle.fan_bits.specs.Words.{class_of}
-use Rattle.fan_listener.specs.declared.queue.Entry.{Entry}
+use Rattle.fan_queue.specs.declared.entry.Entry.{Entry}
 use Rattle.fan_listener.specs.Groups.{is_open, open_listener}
 use Rattle.fan_listener.specs.ListenerState.{ListenerState}
 use Rattle.fan_machine.specs.Groups.{max_open_groups}

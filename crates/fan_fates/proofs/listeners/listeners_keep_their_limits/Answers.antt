@@ -1,12 +1,12 @@
 use Rattle.fan_fates.proofs.Answering.{differ_new, once_new}
-use Rattle.fan_fates.proofs.Keys.{own_new}
-use Rattle.fan_fates.proofs.Limits.{limited_new, within_new}
+use Rattle.fan_fates.proofs.Queues.{has_new, own_new}
+use Rattle.fan_fates.proofs.Limits.{within_new}
 use Rattle.fan_fates.proofs.ReadFirst.{read_new}
 use Rattle.fan_fates.proofs.listeners.listeners_keep_their_limits.Goals as goal
 
 -- src/listeners.rt
 pub returns-clause-one_overflow : goal.returns-clause-one_overflow
-returns-clause-one_overflow c = λ flags limit calls. (limited_new flags limit calls).one
+returns-clause-one_overflow c = λ flags limit calls. (has_new flags limit calls).lost_once
 
 pub returns-clause-limited : goal.returns-clause-limited
 returns-clause-limited c = λ flags limit calls limits. within_new flags limit calls limits

@@ -1,8 +1,8 @@
 use Rattle.std.proofs.Common.{◌≡◌, ◌++◌, true, subst, sym}
 use Rattle.std.proofs.lemmas.List.Elements.{All-weaker}
 use Rattle.fan_bits.specs.MarkWords.{overflow_bit}
-use Rattle.fan_listener.specs.declared.queue.Entry.{Entry}
-use Rattle.fan_listener.specs.Queue.{is_overflow}
+use Rattle.fan_queue.specs.declared.entry.Entry.{Entry}
+use Rattle.fan_queue.specs.Queue.{is_lost}
 use Rattle.std.specs.Prelude.{All}
 use Rattle.fan_fates.proofs.Lived.{lived}
 use Rattle.fan_fates.proofs.Reading.{mask_overflows, read_spelled}
@@ -26,8 +26,8 @@ pub returns-clause-overflow_bits : goal.returns-clause-overflow_bits
 returns-clause-overflow_bits c = λ steps group.
     let its = lived steps group in
     let past = deeds_in group initial_world steps in
-    subst (λ queue. All (λ (entry : Entry). is_overflow entry ≡ true
+    subst (λ queue. All (λ (entry : Entry). is_lost entry ≡ true
     → mask_of (told past entry.number) ≡ overflow_bit) (left past ++ queue)) (sym its.queue)
-    (All-weaker (HasBitsIn past) (λ (entry : Entry). is_overflow entry ≡ true
+    (All-weaker (HasBitsIn past) (λ (entry : Entry). is_lost entry ≡ true
     → mask_of (told past entry.number) ≡ overflow_bit) (λ entry has. mask_overflows past entry has)
     (left past ++ its.listener.queue) its.history.fits.bits)
