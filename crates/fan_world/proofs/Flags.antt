@@ -9,8 +9,8 @@ use Rattle.fan_bits.specs.declared.mark.Mark.{Mark}
 use Rattle.fan_bits.specs.Words.{class_of}
 use Rattle.fan_listener.specs.declared.answers.Answer.TheVariants as answers
 use Rattle.fan_listener.specs.declared.answers.Answered.{Answered}
-use Rattle.fan_listener.specs.declared.event.Event.{Event}
-use Rattle.fan_listener.specs.declared.queue.Put.TheVariants as puts
+use Rattle.fan_event.specs.declared.event.Event.{Event}
+use Rattle.fan_queue.specs.declared.entry.Put.TheVariants as puts
 use Rattle.fan_listener.proofs.Bounds.{makes-answer_of, makes-closed_of, makes-put, makes-read_of, makes-written}
 use Rattle.fan_listener.specs.Groups.{IsCalledOnce, answer_from, called_at, closed_in, if_open, is_open, listener_at, outcome_in, put_to, read_from, tried_at, with_listener, written_to}
 use Rattle.fan_listener.specs.ListenerState.{ListenerState}

@@ -6,8 +6,8 @@ use Rattle.fan_bits.specs.declared.mark.Mark.{Mark}
 use Rattle.fan_groups.specs.Bounds.{AreBounded}
 use Rattle.fan_groups.proofs.Bounded.{bounded_call, bounded_later, makes_less}
 use Rattle.fan_listener.specs.declared.answers.Answer.TheVariants as answers
-use Rattle.fan_listener.specs.declared.event.Event.{Event}
-use Rattle.fan_listener.specs.declared.queue.Put.TheVariants as puts
+use Rattle.fan_event.specs.declared.event.Event.{Event}
+use Rattle.fan_queue.specs.declared.entry.Put.TheVariants as puts
 use Rattle.fan_listener.proofs.Bounds.{makes-answer_of, makes-put}
 use Rattle.fan_listener.specs.Bounds.{Makes}
 use Rattle.fan_listener.specs.Groups.{IsCalledOnce, answer_from, called_at, listener_at, put_to, with_listener}

@@ -34,6 +34,7 @@ pub(crate) struct Machine {
 }
 
 impl Model for Machine {
+    ghost use Rattle.fan_world.specs.Limits.{IsLimit};
     ghost use Rattle.fan_world.specs.Machine.{Parts};
 
     ghost Value = { Parts };
@@ -50,6 +51,8 @@ impl Model for Machine {
       limit = m.limit;
       steps = m.steps;
     } };
+
+    ghost invariant = { λ m. IsLimit m.limit };
 }
 
 impl Machine {
