@@ -1,0 +1,3 @@
+pub mod SlotsState
+pub mod Placed
+pub mod Lends
