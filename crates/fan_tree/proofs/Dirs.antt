@@ -1,20 +1,20 @@
 -- Directories with their names: what is looked up in them, and a name more.
-use Rattle.std.proofs.Common.{◌≡◌, ◌∙◌, ℕ, ◌==◌, ◌&&◌, Bool, true, false, cond, List, [], ◌∷◌, ◌++◌, Option, Some, None, refl, ap, sym, arith}
+use Rattle.std.proofs.Common.{◌≡◌, ◌≢◌, ◌∙◌, ℕ, ◌+◌, ◌<◌, ◌==◌, ◌&&◌, Bool, true, false, cond, List, [], ◌∷◌, ◌++◌, Option, Some, None, refl, ap, sym, arith, get_or, length, slice_set, suc, zero}
 use Rattle.std.proofs.lemmas.List.{map-append}
 use Rattle.std.specs.BTreeMap.{insert_entry, is_at}
 use Rattle.std.specs.Cmp.Lexicographic.{bytes_decides, nat_list_eq_equiv, slice_cmp}
 use Rattle.std.specs.Global.{Vec}
-use Rattle.std.specs.Map.{lookup, set_value}
+use Rattle.std.specs.Map.{lookup}
 use Rattle.std.specs.Ordering.{is_eq, nat_cmp}
 use Rattle.std.specs.Str.{bytes_eq}
 use Rattle.std.specs.declared.cmp.Ordering.{Ordering}
 use Rattle.std.specs.declared.cmp.Ordering.TheVariants.{Equal, Greater, Less}
 use Rattle.std.proofs.lemmas.Bool.Decides.{nat_tests}
 use Rattle.std.proofs.lemmas.Map.Text.{is_eq-slice_cmp}
-use Rattle.fan_tree.specs.Names.{Adds, Dirs, Named, NamesOne, NamesSame, all_entries, entries_in, named, number_by, number_in, number_of}
-use Rattle.fan_tree.specs.Tree.{DirEntry}
+use Rattle.fan_tree.specs.Names.{Adds, Dirs, Named, NamesOne, NamesSame, entries_from, entries_in, named, number_in, number_of}
+use Rattle.fan_tree.specs.Tree.{DirEntry, is_named}
+use Rattle.std.proofs.lemmas.List.{get_or-set_other, get_or-set_same, get_or_default}
 use Rattle.fan_tree.proofs.Entries.{adds_before, adds_behind}
-use Rattle.fan_tree.proofs.Numbered.{same_number}
 
 -- a name is looked up by its bytes
 pub number_kept : (entries : List (Vec ℕ × ℕ)) (name : List ℕ)
@@ -101,117 +101,86 @@ entries_added dir old new name number adds = record {
 }
 
 -- the entries of all directories when one of them has a name more
-pub dir_added : (dirs : Dirs) (dir : ℕ) (old new : Named) (name : List ℕ) (number : ℕ)
-    → lookup (is_at (nat_cmp dir)) dirs ≡ Some old → Adds old new (name, number)
-    → Adds (all_entries dirs) (all_entries (set_value (is_at (nat_cmp dir)) dirs new))
+entries_more : (first dir index : ℕ) (dirs : Dirs) (names : Named) (name : List ℕ) (number : ℕ)
+    → first + index ≡ dir → index < length dirs → Adds (get_or dirs index []) names (name, number)
+    → Adds (entries_from first dirs) (entries_from first (slice_set dirs index names))
     (record { dir = dir; name = name; inode = number })
-dir_added [] dir old new name number there adds = absurd (cc)
-dir_added (one ∷ more) dir old new name number there adds =
-    (elim (is_eq (nat_cmp dir one.0)) as (λ here. is_eq (nat_cmp dir one.0) ≡ here
-    → cond here (Some one.1) (lookup (is_at (nat_cmp dir)) more) ≡ Some old
-    → Adds (all_entries (one ∷ more))
-    (all_entries (cond here ((one.0, new) ∷ more) (one ∷ set_value (is_at (nat_cmp dir)) more new)))
-    (record { dir = dir; name = name; inode = number })) [
-      | true ↦ λ same found.
-          let is : one.0 ≡ dir = grind (arith, nat_tests) in
-          let names : one.1 ≡ old = cc in
-          rw (is, names)
-          (adds_before (all_entries more) (entries_in dir old) (entries_in dir new) _
-          (entries_added dir old new name number adds))
-      | false ↦ λ differs found.
-          adds_behind (entries_in one.0 one.1) _ _ _ (dir_added more dir old new name number found adds)
-    ]) refl there
+entries_more first dir index [] names name number is within adds = absurd (omega (arith, within))
+entries_more first dir zero (one ∷ more) names name number is within adds =
+    let same : first ≡ dir = omega (arith, is) in
+    rw same
+    (adds_before (entries_from (dir + 1) more) (entries_in dir one) (entries_in dir names) _
+    (entries_added dir one names name number adds))
+entries_more first dir (suc index) (one ∷ more) names name number is within adds =
+    adds_behind (entries_in first one) _ _ _
+    (entries_more (first + 1) dir index more names name number (omega (arith, is)) (omega (arith, within)) adds)
 
--- and when a directory gets its first name
-pub dir_new : (dirs : Dirs) (dir : ℕ) (new : Named) (name : List ℕ) (number : ℕ)
-    → lookup (is_at (nat_cmp dir)) dirs ≡ None → Adds [] new (name, number)
-    → Adds (all_entries dirs) (all_entries (insert_entry nat_cmp dirs dir new))
-    (record { dir = dir; name = name; inode = number })
-dir_new [] dir new name number none adds =
-    adds_before [] [] (entries_in dir new) _ (entries_added dir [] new name number adds)
-dir_new (one ∷ more) dir new name number none adds =
-    by (nat_cmp dir one.0) refl none (dir_new more dir new name number)
-  where
-    by : (order : Ordering) → nat_cmp dir one.0 ≡ order
-        → cond (is_eq (nat_cmp dir one.0)) (Some one.1) (lookup (is_at (nat_cmp dir)) more) ≡ None
-        → (lookup (is_at (nat_cmp dir)) more ≡ None → Adds [] new (name, number)
-        → Adds (all_entries more) (all_entries (insert_entry nat_cmp more dir new))
-        (record { dir = dir; name = name; inode = number }))
-        → Adds (all_entries (one ∷ more)) (all_entries (insert_entry nat_cmp (one ∷ more) dir new))
-        (record { dir = dir; name = name; inode = number })
-    by Less is free rest =
-        rw is (adds_before (all_entries (one ∷ more)) [] (entries_in dir new) _
-        (entries_added dir [] new name number adds))
-    by Equal is free rest = absurd (let found = rw is at free in cc)
-    by Greater is free rest = rw is (adds_behind (entries_in one.0 one.1) _ _ _ (rest (rw is at free) adds))
-
--- a directory that keeps its names leaves all entries as they were
-pub dir_same : (dirs : Dirs) (dir : ℕ) (names : Named)
-    → lookup (is_at (nat_cmp dir)) dirs ≡ Some names
-    → set_value (is_at (nat_cmp dir)) dirs names ≡ dirs
-dir_same [] dir names there = absurd (cc)
-dir_same (one ∷ more) dir names there =
-    (elim (is_eq (nat_cmp dir one.0)) as (λ here.
-    cond here (Some one.1) (lookup (is_at (nat_cmp dir)) more) ≡ Some names
-    → cond here ((one.0, names) ∷ more) (one ∷ set_value (is_at (nat_cmp dir)) more names) ≡ one ∷ more) [
-      | true ↦ λ found. let same : one.1 ≡ names = cc in rw (← same) refl
-      | false ↦ λ found. ap (λ rest. one ∷ rest) (dir_same more dir names found)
-    ]) there
-
--- what is looked up when the names of a directory are others
-pub numbers_one : (old new : Dirs) (entry : DirEntry) (was : Option Named) (names : Named)
-    → lookup (is_at (nat_cmp entry.dir)) old ≡ was
-    → ((other : List ℕ) → number_of names other
-    ≡ cond (bytes_eq entry.name other) (Some entry.inode) (number_by was other))
-    → ((dir : ℕ) → lookup (is_at (nat_cmp dir)) new
-    ≡ cond (is_at (nat_cmp entry.dir) dir) (Some names) (lookup (is_at (nat_cmp dir)) old))
-    → (dir : ℕ) (name : List ℕ)
-    → number_in new dir name
-    ≡ cond (entry.dir == dir && bytes_eq entry.name name) (Some entry.inode) (number_in old dir name)
-numbers_one old new entry was names there one others dir name =
-    rw (others dir, same_number entry.dir dir)
-    ((elim (entry.dir == dir) as (λ here. (entry.dir == dir) ≡ here
-    → number_by (cond (dir == entry.dir) (Some names) (lookup (is_at (nat_cmp dir)) old)) name
-    ≡ cond (here && bytes_eq entry.name name) (Some entry.inode) (number_in old dir name)) [
+-- what is looked up when a directory has a name more
+numbers_more : (dirs : Dirs) (dir : ℕ) (names : Named) (name : List ℕ) (number : ℕ)
+    → dir < length dirs → number_in dirs dir name ≡ None
+    → Adds (get_or dirs dir []) names (name, number)
+    → (other : ℕ) (word : List ℕ)
+    → number_in (slice_set dirs dir names) other word
+    ≡ cond (dir == other && bytes_eq name word) (Some number) (number_in dirs other word)
+numbers_more dirs dir names name number within free adds other word =
+    (elim (dir == other) as (λ here. (dir == other) ≡ here
+    → number_in (slice_set dirs dir names) other word
+    ≡ cond (here && bytes_eq name word) (Some number) (number_in dirs other word)) [
       | true ↦ λ same.
-          let e : entry.dir ≡ dir = grind (arith, nat_tests) in
-          let d : (dir == entry.dir) ≡ true = grind (arith, nat_tests) in
-          let at : lookup (is_at (nat_cmp dir)) old ≡ was = rw (← e) there in
-          rw (d, at) (one name)
+          let e : other ≡ dir = grind (arith, nat_tests) in
+          rw (e, get_or-set_same dirs dir names [] within)
+          (number_added (get_or dirs dir []) names name word number adds free)
       | false ↦ λ differs.
-          let d : (dir == entry.dir) ≡ false = grind (arith, nat_tests) in rw d refl
-    ]) refl)
+          let d : other ≢ dir = grind (arith, nat_tests) in rw (get_or-set_other dirs dir other names [] d) refl
+    ]) refl
 
-module _ (dirs new : Dirs) (dir : ℕ) (names : Named) (name : List ℕ) (number : ℕ)
-    (others : (other : ℕ) → lookup (is_at (nat_cmp other)) new
-    ≡ cond (is_at (nat_cmp dir) other) (Some names) (lookup (is_at (nat_cmp other)) dirs)) where
-  -- a name more in a directory that has some
-  pub named_more : (old : Named) → lookup (is_at (nat_cmp dir)) dirs ≡ Some old
-      → new ≡ set_value (is_at (nat_cmp dir)) dirs names → number_in dirs dir name ≡ None
-      → Adds old names (name, number)
-      → NamesOne dirs new (record { dir = dir; name = name; inode = number })
-  named_more old there is free adds =
-      let none : number_of old name ≡ None = rw there at free in
-      record {
-        entries = rw is (dir_added dirs dir old names name number there adds);
-        numbers = numbers_one dirs new (record { dir = dir; name = name; inode = number }) (Some old) names
-            there (λ other. number_added old names name other number adds none) others;
-      }
+-- a name more in a directory
+pub named_more : (dirs : Dirs) (dir : ℕ) (old names : Named) (name : List ℕ) (number : ℕ)
+    → dir < length dirs → old ≡ get_or dirs dir old → number_in dirs dir name ≡ None
+    → Adds old names (name, number)
+    → NamesOne dirs (slice_set dirs dir names) (record { dir = dir; name = name; inode = number })
+named_more dirs dir old names name number within there free adds =
+    let same : get_or dirs dir [] ≡ old = get_or_default dirs dir [] old within ∙ sym there in
+    let more : Adds (get_or dirs dir []) names (name, number) = rw same adds in
+    record {
+      entries = entries_more 0 dir dir dirs names name number (omega arith) within more;
+      numbers = numbers_more dirs dir names name number within free more;
+    }
 
-  -- the first name in a directory
-  pub named_first : lookup (is_at (nat_cmp dir)) dirs ≡ None
-      → new ≡ insert_entry nat_cmp dirs dir names → Adds [] names (name, number)
-      → NamesOne dirs new (record { dir = dir; name = name; inode = number })
-  named_first none is adds = record {
-    entries = rw is (dir_new dirs dir names name number none adds);
-    numbers = numbers_one dirs new (record { dir = dir; name = name; inode = number }) None names none
-        (λ other. number_added [] names name other number adds refl) others;
-  }
+-- a directory without names adds no entries
+entries_padded : (first : ℕ) (dirs : Dirs) → entries_from first (dirs ++ [] ∷ []) ≡ entries_from first dirs
+entries_padded first [] = refl
+entries_padded first (names ∷ more) =
+    ap (λ rest. entries_in first names ++ rest) (entries_padded (first + 1) more)
 
--- a directory keeps its names
-pub named_same : (dirs new : Dirs) (dir : ℕ) (old names : Named)
-    → lookup (is_at (nat_cmp dir)) dirs ≡ Some old → new ≡ set_value (is_at (nat_cmp dir)) dirs names
-    → names ≡ old → NamesSame dirs new
-named_same dirs new dir old names there is same =
-    let all : new ≡ dirs = is ∙ rw same (dir_same dirs dir old there) in
-    rw all (record { entries = refl; numbers = λ other name. refl })
+-- nor names that are looked up
+names_padded : (dirs : Dirs) (dir : ℕ) → get_or (dirs ++ [] ∷ []) dir [] ≡ get_or dirs dir []
+names_padded [] zero = refl
+names_padded [] (suc dir) = refl
+names_padded (names ∷ more) zero = refl
+names_padded (names ∷ more) (suc dir) = names_padded more dir
+
+-- a directory without names changes nothing
+pub same_padded : (old new : Dirs) → NamesSame old new → NamesSame old (new ++ [] ∷ [])
+same_padded old new same = record {
+  entries = entries_padded 0 new ∙ same.entries;
+  numbers = λ dir name. ap (λ names. number_of names name) (names_padded new dir) ∙ same.numbers dir name;
+}
+
+-- two changes that leave the names as they were leave them so together
+pub same_then_same : (old between new : Dirs)
+    → NamesSame old between → NamesSame between new → NamesSame old new
+same_then_same old between new first last = record {
+  entries = last.entries ∙ first.entries;
+  numbers = λ dir name. last.numbers dir name ∙ first.numbers dir name;
+}
+
+-- an entry more after such a change is one entry more
+pub same_then_one : (old between new : Dirs) (entry : DirEntry)
+    → NamesSame old between → NamesOne between new entry → NamesOne old new entry
+same_then_one old between new entry first last = record {
+  entries = rw first.entries at last.entries;
+  numbers = λ dir name.
+      last.numbers dir name
+      ∙ ap (λ number. cond (is_named dir name entry) (Some entry.inode) number) (first.numbers dir name);
+}

@@ -4,5 +4,5 @@ pub mod Found
 pub mod Kept
 pub mod Lists
 pub mod Making
-pub mod Numbered
+pub mod Slots
 pub mod Whole

@@ -193,3 +193,10 @@ names_below tree is =
         let drawn = (inode_of_is tree entry.inode one.inode is one.leads_to).drawn in
         let number = inode_of_number tree entry.inode one.inode one.leads_to in
         rw number at drawn
+
+-- all inodes have numbers below the next one, and those above it
+pub inodes_below : (tree : TreeState) (number : ℕ)
+    → IsTree tree → tree.next ≤ number → All (λ inode. inode.number < number) tree.inodes
+inodes_below tree number is above =
+    All-weaker (IsInode tree.next) (λ inode. inode.number < number)
+    (λ inode one. omega (arith, one.drawn, above)) tree.inodes is.each

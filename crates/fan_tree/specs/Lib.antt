@@ -1,3 +1,4 @@
+pub mod Inodes
 pub mod Names
 pub mod Steps
 pub mod Tree

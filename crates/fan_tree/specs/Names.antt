@@ -1,20 +1,9 @@
--- How the inodes and the names of a tree are kept. No public clause cites this.
-use Rattle.std.specs.Prelude.{◌≡◌, ℕ, List, [], ◌∷◌, ◌++◌, Option, Some, None, find, flat_map, map, nat_le, option_map, if◌then◌else◌}
-use Rattle.std.specs.BTreeMap.{is_at}
+-- How the names of a tree are kept. No public clause cites this.
+use Rattle.std.specs.Prelude.{◌≡◌, ℕ, ◌+◌, List, [], ◌∷◌, ◌++◌, Option, Some, find, map, nat_le, option_map, slice_index_or, if◌then◌else◌}
 use Rattle.std.specs.Global.{Vec}
 use Rattle.std.specs.Map.{lookup}
-use Rattle.std.specs.Ordering.{nat_cmp}
 use Rattle.std.specs.Str.{bytes_eq}
-use Rattle.fan_tree.specs.declared.inode.About.{About}
-use Rattle.fan_tree.specs.Tree.{DirEntry, Inode, is_named}
-
--- what is kept of an inode, by its number
-abbrev pub inode_at : ℕ × About → Inode
-inode_at kept = record { number = kept.0; fs = kept.1.fs; dir = kept.1.dir }
-
--- the inodes, in the order of their numbers
-abbrev pub kept_inodes : List (ℕ × About) → List Inode
-kept_inodes kept = map inode_at kept
+use Rattle.fan_tree.specs.Tree.{DirEntry, is_named}
 
 -- the names in a directory, each with the number of the inode that it leads to
 abbrev pub Named : Type 0
@@ -28,26 +17,26 @@ named entries = map (λ entry. (entry.0.items, entry.1)) entries
 abbrev pub number_of : Named → List ℕ → Option ℕ
 number_of names name = lookup (bytes_eq name) names
 
--- directories by their numbers, each with its names
+-- the names in each directory, by its number, from 0 on
 abbrev pub Dirs : Type 0
-Dirs = List (ℕ × Named)
-
--- the number that a name leads to in a directory, if this has names
-abbrev pub number_by : Option Named → List ℕ → Option ℕ
-number_by None name = None
-number_by (Some names) name = number_of names name
+Dirs = List Named
 
 -- the number that a name leads to in the directory with a number
 abbrev pub number_in : Dirs → ℕ → List ℕ → Option ℕ
-number_in dirs dir name = number_by (lookup (is_at (nat_cmp dir)) dirs) name
+number_in dirs dir name = number_of (slice_index_or dirs dir []) name
 
 -- the entries of one directory
 abbrev pub entries_in : ℕ → Named → List DirEntry
 entries_in dir names = map (λ one. record { dir = dir; name = one.0; inode = one.1 }) names
 
--- the entries of all directories, one directory after the other
+-- the entries of directories, one after the other, whose numbers count up from the first one's
+abbrev pub entries_from : ℕ → Dirs → List DirEntry
+entries_from dir [] = []
+entries_from dir (names ∷ more) = entries_in dir names ++ entries_from (dir + 1) more
+
+-- the entries of all directories
 abbrev pub all_entries : Dirs → List DirEntry
-all_entries dirs = flat_map (λ one. entries_in one.0 one.1) dirs
+all_entries dirs = entries_from 0 dirs
 
 -- an entry at its place among those that stand by the number that they lead to
 abbrev pub placed : DirEntry → List DirEntry → List DirEntry

@@ -9,6 +9,7 @@
 
 mod dir;
 mod inode;
+mod inodes;
 mod laws;
 mod names;
 #[cfg(test)]

@@ -1,19 +1,18 @@
-// The entries of all directories, found by directory and name in logarithmic time.
-ghost use Rattle.std.specs.Prelude.{◌≡◌, ◌<◌, ◌∷◌, ◌++◌, [], None, All, OnErr, OnOk, find, option_map};
+// The entries of all directories: each directory is found at once, and a name in it in logarithmic time.
+ghost use Rattle.std.specs.Prelude.{◌≡◌, ◌<◌, ◌∷◌, ◌++◌, [], None, All, OnErr, OnOk, find, length, option_map};
 ghost use Rattle.fan_tree.specs.Names.{NamesOne, NamesSame, number_in};
 ghost use Rattle.fan_tree.specs.Tree.{is_named};
 
 use super::dir::Dir;
 use fan_io::NoMemory;
 use std::alloc::Global;
-use std::collections::BTreeMap;
 use std::marker::Model;
 
-/// The names in each directory that has some.
+/// The names in each directory, which stand at its number. A number that is none of a directory has none.
 #[derive(Drop)]
 pub(crate) struct Names {
     alloc: Global,
-    dirs: BTreeMap<u32, Dir>,
+    dirs: Vec<Dir>,
 }
 
 impl Model for Names {
@@ -23,9 +22,9 @@ impl Model for Names {
 
     ghost Value = { List DirEntry };
 
-    ghost view = { λ n. in_order n.dirs.entries };
+    ghost view = { λ n. in_order n.dirs.items };
 
-    ghost invariant = { λ n. AreFound n.dirs.entries };
+    ghost invariant = { λ n. AreFound n.dirs.items };
 }
 
 impl Names {
@@ -35,7 +34,7 @@ impl Names {
     {
         Names {
             alloc,
-            dirs: BTreeMap::new(alloc),
+            dirs: Vec::new(alloc),
         }
     }
 
@@ -44,7 +43,7 @@ impl Names {
         ensures { result
             ≡ option_map (λ entry. entry.inode) (find (is_named dir name.now) self.now) }
     {
-        self.dirs.get(&dir)?.get(name)
+        self.dirs.get(dir as usize)?.get(name)
     }
 
     /// Adds a name to a directory, which leads to a number above those that the others lead to.
@@ -56,28 +55,29 @@ impl Names {
         ensures err { OnErr result (self.new ≡ self.old) }
     {
         let name = name.to_vec(self.alloc)?;
-        insert(self.alloc, &mut self.dirs, dir, name, number)
+        reserve(&mut self.dirs, self.alloc, dir as usize)?;
+        insert(&mut self.dirs, dir as usize, name, number)
     }
 }
 
-// Adds a name to a directory, which may be its first.
-fn insert(
-    alloc: Global,
-    dirs: &mut BTreeMap<u32, Dir>,
-    dir: u32,
-    name: Vec<u8>,
-    number: u32,
-) -> Result<(), NoMemory>
-    requires { number_in dirs.old.entries dir name.items ≡ None }
-    ensures ok { OnOk result (NamesOne dirs.old.entries dirs.new.entries
-        (record { dir = dir; name = name.items; inode = number })) }
-    ensures err { OnErr result (NamesSame dirs.old.entries dirs.new.entries) }
+// Makes a directory with no name at each number, up to this one, that has none.
+fn reserve(dirs: &mut Vec<Dir>, alloc: Global, dir: usize) -> Result<(), NoMemory>
+    ensures same { NamesSame dirs.old.items dirs.new.items }
+    ensures ok { OnOk result (dir < length dirs.new.items) }
 {
-    if let Some(names) = dirs.get_mut(&dir) {
-        return names.insert(name, number);
+    while dirs.len() <= dir {
+        dirs.push(Dir::new(alloc))?;
     }
-    let mut names = Dir::new(alloc);
-    names.insert(name, number)?;
-    dirs.insert(dir, names)?;
     Ok(())
+}
+
+// Adds a name to a directory.
+fn insert(dirs: &mut Vec<Dir>, dir: usize, name: Vec<u8>, number: u32) -> Result<(), NoMemory>
+    requires room { dir < length dirs.old.items }
+    requires free { number_in dirs.old.items dir name.items ≡ None }
+    ensures ok { OnOk result (NamesOne dirs.old.items dirs.new.items
+        (record { dir = dir; name = name.items; inode = number })) }
+    ensures err { OnErr result (NamesSame dirs.old.items dirs.new.items) }
+{
+    dirs[dir].insert(name, number)
 }

@@ -6,10 +6,10 @@ ghost use Rattle.fan_tree.specs.Tree.{IsRefused, about_of, drawn, entry_of, init
 ghost use Rattle.fan_tree.specs.Whole.{IsTree};
 
 use super::inode::{About, TreeRefused};
+use super::inodes::Inodes;
 use super::names::Names;
 use fan_bits::Errno;
 use fan_io::NoMemory;
-use fan_map::Map;
 use std::alloc::Global;
 use std::marker::Model;
 
@@ -19,23 +19,22 @@ const MAX_OBJECT: u32 = 65_535;
 /// All files and directories.
 #[derive(Drop)]
 pub struct Tree {
-    inodes: Map<u32, About>,
+    inodes: Inodes,
     names: Names,
     next: u32,
 }
 
 impl Model for Tree {
-    ghost use Rattle.fan_tree.specs.Names.{kept_inodes};
     ghost use Rattle.fan_tree.specs.Tree.{TreeState};
     ghost use Rattle.fan_tree.specs.Whole.{IsTree};
 
     ghost Value = { TreeState };
 
     ghost view = { λ t.
-        record { inodes = kept_inodes t.inodes.entries; names = t.names; next = t.next } };
+        record { inodes = t.inodes.inodes; names = t.names; next = t.next } };
 
     ghost invariant = { λ t. IsTree
-        (record { inodes = kept_inodes t.inodes.entries; names = t.names; next = t.next }) };
+        (record { inodes = t.inodes.inodes; names = t.names; next = t.next }) };
 }
 
 impl Tree {
@@ -44,10 +43,8 @@ impl Tree {
         ensures initial { result ≡ initial_tree }
         ensures whole { IsTree result }
     {
-        let mut inodes = Map::new(alloc);
-        inodes.insert_reserved(2, About { fs: 1, dir: true });
         Tree {
-            inodes,
+            inodes: Inodes::new(alloc),
             names: Names::new(alloc),
             next: 4,
         }
@@ -58,7 +55,7 @@ impl Tree {
         ensures found { result ≡ option_map about_of (inode_of self.now inode) }
         ensures whole { IsTree self.now }
     {
-        self.inodes.get(&inode).copied()
+        self.inodes.get(inode)
     }
 
     /// The number of the inode that a name leads to in a directory; None exactly if the directory has no such
@@ -76,7 +73,7 @@ impl Tree {
         ensures found { result ≡ option_map (λ inode. inode.number) (root_of self.now fs) }
         ensures whole { IsTree self.now }
     {
-        let root = self.inodes.get(&fs.checked_add(1)?)?;
+        let root = self.inodes.get(fs.checked_add(1)?)?;
         if root.fs != fs {
             return None;
         }
@@ -171,7 +168,7 @@ impl Tree {
         ensures err { OnErr result (self.new ≡ self.old) }
         ensures whole { IsTree self.new }
     {
-        self.inodes.reserve()?;
+        self.inodes.reserve(self.next)?;
         self.names.push(dir, name, self.next)?;
         self.inodes.insert_reserved(self.next, about);
         self.next += 1;
@@ -185,8 +182,8 @@ impl Tree {
         ensures err { OnErr result (self.new ≡ self.old) }
         ensures whole { IsTree self.new }
     {
-        self.inodes.reserve()?;
         let fs = self.next;
+        self.inodes.reserve(fs + 1)?;
         self.inodes.insert_reserved(fs + 1, About { fs, dir: true });
         self.next += 2;
         Ok(())
