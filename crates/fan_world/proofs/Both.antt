@@ -1,4 +1,4 @@
--- Open accesses bs they are kept, beside those that they stand for.
+-- Open accesses as they are kept, beside those that they stand for.
 use Rattle.std.proofs.Common.{◌≡◌, ◌∙◌, ℕ, Bool, true, false, cond, List, [], ◌∷◌, Some, None, refl, sym, ap, subst, arith}
 use Rattle.std.specs.Prelude.{IfSome, filter, slice_get}
 use Rattle.std.specs.BTreeMap.{insert_entry, is_at}
@@ -192,32 +192,10 @@ stepped_both number outcome groups new_groups es new kept next found step is acc
           (set_both test es accesses zipped _ stepped.access stands) (removed_both test es accesses zipped));
     }
 
--- ---- exchanged and put back
+-- ---- in its place
 
--- what was put at a place is found there
-pub set_found : (test : ℕ → Bool) (es : List (ℕ × OpenAccess)) (kept : OpenAccess) (P : OpenAccess → Type 0) → P kept
-    → IfSome (lookup test (set_value test es kept)) P
-set_found test [] kept P holds = tt
-set_found test (e ∷ es) kept P holds = by (test e.0) refl (set_found test es kept P holds)
-  where
-    by : (b : Bool) → test e.0 ≡ b → IfSome (lookup test (set_value test es kept)) P
-        → IfSome (lookup test (set_value test (e ∷ es) kept)) P
-    by true i ih = rw i (rw i holds)
-    by false i ih = rw i (rw i ih)
-
--- the last value that was put at a place stays there
-pub set_twice : (test : ℕ → Bool) (es : List (ℕ × OpenAccess)) (first kept : OpenAccess)
-    → set_value test (set_value test es first) kept ≡ set_value test es kept
-set_twice test [] first kept = refl
-set_twice test (e ∷ es) first kept = by (test e.0) refl (set_twice test es first kept)
-  where
-    by : (b : Bool) → test e.0 ≡ b → set_value test (set_value test es first) kept ≡ set_value test es kept
-        → set_value test (set_value test (e ∷ es) first) kept ≡ set_value test (e ∷ es) kept
-    by true i ih = grind (arith, i)
-    by false i ih = grind (arith, i, ih)
-
--- and goes from there bs another would
-pub set_removed : (test : ℕ → Bool) (es : List (ℕ × OpenAccess)) (kept : OpenAccess)
+-- what stood at a place goes from there, whatever was put there before
+set_removed : (test : ℕ → Bool) (es : List (ℕ × OpenAccess)) (kept : OpenAccess)
     → remove_entry test (set_value test es kept) ≡ remove_entry test es
 set_removed test [] kept = refl
 set_removed test (e ∷ es) kept = by (test e.0) refl (set_removed test es kept)
@@ -227,19 +205,26 @@ set_removed test (e ∷ es) kept = by (test e.0) refl (set_removed test es kept)
     by true i ih = grind (arith, i)
     by false i ih = grind (arith, i, ih)
 
--- an access was taken out for its step, another stood in its place, and then it was put back
-module _ (test : ℕ → Bool) (es taken new : List (ℕ × OpenAccess)) (kept other : OpenAccess) (access : KeptAccess)
-    (marks : List Mark) (took : taken ≡ set_value test es other) (same : marks ≡ kept.marks)
-    (put : new ≡ set_value test taken (record { access = access; marks = marks })) where
-  -- where it stands now is all that changed
-  pub put_back : new ≡ set_value test es (record { access = access; marks = kept.marks })
-  put_back =
-      put ∙ ap (λ (taken : List (ℕ × OpenAccess)). set_value test taken (record { access = access; marks = marks })) took
-      ∙ set_twice test es other (record { access = access; marks = marks })
-      ∙ ap (λ (marks : List Mark). set_value test es (record { access = access; marks = marks })) same
+-- an access did its step in its place, where it has these marks now
+module _ (number : ℕ) (es : List (ℕ × OpenAccess)) (kept : OpenAccess) (access : KeptAccess) (marks : List Mark)
+    (same : marks ≡ kept.marks) where
+  abbrev pub stood : List (ℕ × OpenAccess)
+  stood = set_value (is_at (nat_cmp number)) es (record { access = access; marks = marks })
 
-  -- and if it stands where it stood, nothing changed
-  pub put_back_same : lookup test es ≡ Some kept → access ≡ kept.access → new ≡ es
-  put_back_same found stays =
-      put_back ∙ ap (λ (access : KeptAccess). set_value test es (record { access = access; marks = kept.marks })) stays
-      ∙ set_value_same test es kept found
+  -- it goes where the outcome ends it
+  pub goes_after : (outcome : StepOutcome) (new : List (ℕ × OpenAccess)) → ends_access outcome ≡ true
+      → new ≡ remove_entry (is_at (nat_cmp number)) stood
+      → new ≡ kept_after number outcome (record { access = access; marks = kept.marks }) es
+  goes_after outcome new ends gone = rw ends (gone ∙ set_removed (is_at (nat_cmp number)) es _)
+
+  -- and else stays there
+  pub stays_after : (outcome : StepOutcome) → ends_access outcome ≡ false
+      → stood ≡ kept_after number outcome (record { access = access; marks = kept.marks }) es
+  stays_after outcome goes_on =
+      rw goes_on (ap (λ (marks : List Mark). set_value (is_at (nat_cmp number)) es (record { access = access; marks = marks }))
+      same)
+
+  -- where it stands as before, nothing changed
+  pub stays_same : lookup (is_at (nat_cmp number)) es ≡ Some kept → access ≡ kept.access → stood ≡ es
+  stays_same found stays =
+      rw (stays, same) (set_value_same (is_at (nat_cmp number)) es kept found)

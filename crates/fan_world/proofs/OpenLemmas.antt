@@ -1,6 +1,6 @@
 -- The open accesses stay counted as they begin, step and end.
 use Rattle.std.proofs.Common.{◌≡◌, ◌∙◌, ℕ, ◌+◌, ◌<◌, ◌≤◌, Bool, true, false, cond, List, [], ◌∷◌, ◌++◌, Option, Some, None, length, refl, sym, ap, subst, arith}
-use Rattle.std.specs.Prelude.{All, IfSome, nat_le, nat_lt, ◌==◌}
+use Rattle.std.specs.Prelude.{All, nat_le, nat_lt, slice_get, ◌==◌}
 use Rattle.std.specs.BTreeMap.{insert_entry, is_at}
 use Rattle.std.specs.List.{AllByRecursion, list_any}
 use Rattle.std.specs.List.Sorted.{IsStrictlySortedBy}
@@ -16,7 +16,6 @@ use Rattle.std.proofs.lemmas.Map.Keys.{sorted_head}
 use Rattle.std.specs.declared.cmp.Ordering.TheVariants.{Less}
 use Rattle.fan_bits.specs.declared.place.Place.{Place}
 use Rattle.fan_lists.proofs.Counts.{any_from_count, count_by-cons, count_from_any}
-use Rattle.fan_map.proofs.JoinedLemmas.{set_value_absent}
 use Rattle.fan_map.proofs.Keys.{insert_number_end, new_number_end}
 use Rattle.fan_world.specs.declared.open_accesses.OpenAccess.{OpenAccess}
 use Rattle.fan_map.specs.Counts.{number_at}
@@ -101,18 +100,6 @@ module _ (entries : List (ℕ × OpenAccess)) (through : List (ℕ × ℕ)) (las
             omega (arith, counted.counts mount, set, bit);
       }
 
-  -- the same if there may be none
-  pub counted_exchange : (number : ℕ) (other : OpenAccess)
-      → IfSome (lookup (is_at (nat_cmp number)) entries) (λ held. held.access.place ≡ other.access.place)
-      → AreCounted (set_value (is_at (nat_cmp number)) entries other) through last
-  counted_exchange number other same = by (lookup (is_at (nat_cmp number)) entries) refl same
-    where
-      by : (held : Option OpenAccess) → lookup (is_at (nat_cmp number)) entries ≡ held
-          → IfSome held (λ held. held.access.place ≡ other.access.place)
-          → AreCounted (set_value (is_at (nat_cmp number)) entries other) through last
-      by None none same = rw (set_value_absent (is_at (nat_cmp number)) entries other none) counted
-      by (Some held) found same = counted_set number held other found same
-
   -- one that ends is counted no more
   pub counted_less : (new : List (ℕ × ℕ)) (number : ℕ) (ended : OpenAccess)
       → lookup (is_at (nat_cmp number)) entries ≡ Some ended
@@ -193,8 +180,15 @@ least_in number first more sorted = by (nat_le first.0 number) refl
           none_up_to number first.0 more (sorted_head nat_cmp first.0 (keys_of more) sorted) less,
         )
 
-pub least_up_to : (number : ℕ) (es : List (ℕ × OpenAccess)) (first : ℕ × OpenAccess) (more : List (ℕ × OpenAccess))
-    → es ≡ first ∷ more → IsStrictlySortedBy nat_cmp (keys_of es) → has_up_to es number ≡ nat_le first.0 number
-least_up_to number es first more is sorted =
-    ap (λ (es : List (ℕ × OpenAccess)). has_up_to es number) is
-    ∙ least_in number first more (subst (λ (es : List (ℕ × OpenAccess)). IsStrictlySortedBy nat_cmp (keys_of es)) is sorted)
+pub least_up_to : (number : ℕ) (es : List (ℕ × OpenAccess)) (least : ℕ)
+    → Some least ≡ option_map (λ e. e.0) (slice_get es 0) → IsStrictlySortedBy nat_cmp (keys_of es)
+    → has_up_to es number ≡ nat_le least number
+least_up_to number [] least is sorted = absurd cc
+least_up_to number (first ∷ more) least is sorted =
+    let same : least ≡ first.0 = cc in rw same (least_in number first more sorted)
+
+-- without a first there is none
+pub empty_up_to : (number : ℕ) (es : List (ℕ × OpenAccess)) → None ≡ option_map (λ e. e.0) (slice_get es 0)
+    → has_up_to es number ≡ false
+empty_up_to number [] is = refl
+empty_up_to number (first ∷ more) is = absurd cc

@@ -109,7 +109,8 @@ impl Files {
 // A change of the tree that was made or refused, and want of memory apart from that.
 fn settled(made: Result<u32, TreeRefused>) -> Result<Result<u32, Errno>, NoMemory>
     ensures made { IfOk result (λ done. IfOk done (λ number. made ≡ Ok number)) }
-    ensures refused { IfOk result (λ done. IfErr done (λ errno. made ≡ Err (TreeRefused.No errno))) }
+    ensures refused { IfOk result (λ done. IfErr done
+        (λ errno. made ≡ Err (TreeRefused.No errno))) }
     ensures err { OnErr result (made ≡ Err TreeRefused.NoMemory) }
 {
     match made {

@@ -2,7 +2,7 @@
 ghost use Rattle.std.specs.Prelude.{◌≡◌, ◌≤◌, ◌<◌, ◌^◌, ℕ, List, [], All, IfNone, IfOk, IfSome, None, OnErr, OnOk};
 ghost use Rattle.std.specs.BTreeMap.{insert_entry, is_at};
 ghost use Rattle.std.specs.List.{AllZip, list_any};
-ghost use Rattle.std.specs.Map.{keys_of, lookup, remove_entry, set_value, values_of};
+ghost use Rattle.std.specs.Map.{keys_of, lookup, remove_entry, values_of};
 ghost use Rattle.std.specs.Ordering.{nat_cmp};
 ghost use Rattle.fan_access.specs.Access.{AccessState};
 ghost use Rattle.fan_listener.specs.Groups.{IsCalledOnce};
@@ -16,9 +16,9 @@ use fan_io::NoMemory;
 use fan_map::Map;
 use fan_map::counts::{add_one, number_at, take_one};
 use fan_near::NearMarks;
+use fan_slots::Slots;
 use std::alloc::Global;
 use std::marker::Model;
-use std::ops::Bound;
 
 /// An open access, and the marks by which it goes.
 #[derive(Drop)]
@@ -32,8 +32,7 @@ pub(crate) struct OpenAccess {
 /// The open accesses, found by their numbers, and the greatest number that an access had.
 #[derive(Drop)]
 pub(crate) struct OpenAccesses {
-    alloc: Global,
-    by_number: Map<u32, OpenAccess>,
+    by_number: Slots<OpenAccess>,
     // How many were begun through each mount.
     through: Map<u32, u32>,
     last: u32,
@@ -61,8 +60,7 @@ impl OpenAccesses {
         ensures last { result.last ≡ 0 }
     {
         OpenAccesses {
-            alloc,
-            by_number: Map::new(alloc),
+            by_number: Slots::new(alloc),
             through: Map::new(alloc),
             last: 0,
         }
@@ -87,8 +85,8 @@ impl OpenAccesses {
     pub(crate) fn has_up_to(&self, number: u32) -> bool
         ensures { result ≡ has_up_to self.now.entries number }
     {
-        match self.by_number.iter().next() {
-            Some((least, _)) => *least <= number,
+        match self.by_number.first() {
+            Some(least) => least <= number,
             None => false,
         }
     }
@@ -134,48 +132,22 @@ impl OpenAccesses {
             → HasStepped number outcome groups.old groups.new self.new.entries accesses)) }
         ensures none { IfOk result (λ found. IfNone found
             (lookup (is_at (nat_cmp number)) self.old.entries ≡ None)) }
-        ensures none_same { IfOk result (λ found. IfNone found (self.new.entries ≡ self.old.entries)) }
+        ensures none_same { IfOk result (λ found. IfNone found
+            (self.new.entries ≡ self.old.entries)) }
         ensures none_groups { IfOk result (λ found. IfNone found (groups.new ≡ groups.old)) }
         ensures calls { IsCalledOnce groups.old groups.new }
         ensures last { self.new.last ≡ self.old.last }
         ensures err { OnErr result (self.new.entries ≡ self.old.entries) }
         ensures groups { OnErr result (groups.new ≡ groups.old) }
     {
-        let Some(mut stepping) = self.take(number) else {
+        let Some(stepping) = self.by_number.get_mut(number) else {
             return Ok(None);
         };
-        let stepped = stepping.marks.step(&mut stepping.access, groups);
-        self.exchange(number, stepping);
-        let outcome = stepped?;
+        let outcome = stepping.marks.step(&mut stepping.access, groups)?;
         if outcome.ends_access() {
             self.end(number);
         }
         Ok(Some(outcome))
-    }
-
-    // Takes an access out for its step. One without marks stays in its place.
-    fn take(&mut self, number: u32) -> Option<OpenAccess>
-        ensures found { result ≡ lookup (is_at (nat_cmp number)) self.old.entries }
-        ensures entries { IfSome result (λ taken. self.new.entries ≡ set_value (is_at (nat_cmp number))
-            self.old.entries (record taken { marks = [] })) }
-        ensures none { IfNone result (self.new.entries ≡ self.old.entries) }
-        ensures last { self.new.last ≡ self.old.last }
-    {
-        let access = self.by_number.get(&number)?.access;
-        let marks = NearMarks::new(self.alloc);
-        self.exchange(number, OpenAccess { access, marks })
-    }
-
-    // Puts another access of the same place in the place of one, and gives that one.
-    fn exchange(&mut self, number: u32, other: OpenAccess) -> Option<OpenAccess>
-        requires { IfSome (lookup (is_at (nat_cmp number)) self.old.entries)
-            (λ held. held.access.place ≡ other.access.place) }
-        ensures old { result ≡ lookup (is_at (nat_cmp number)) self.old.entries }
-        ensures entries { self.new.entries
-            ≡ set_value (is_at (nat_cmp number)) self.old.entries other }
-        ensures last { self.new.last ≡ self.old.last }
-    {
-        self.by_number.replace(&number, other)
     }
 
     // Takes away an access that is finished.
@@ -184,7 +156,7 @@ impl OpenAccesses {
             ≡ remove_entry (is_at (nat_cmp number)) self.old.entries }
         ensures last { self.new.last ≡ self.old.last }
     {
-        if let Some(ended) = self.by_number.remove(&number) {
+        if let Some(ended) = self.by_number.remove(number) {
             take_one(&mut self.through, ended.access.place().mount);
         }
     }

@@ -1,52 +1,52 @@
-use Rattle.std.proofs.Common.{◌≡◌, ◌∙◌, Bool, [], cond, ap, sym}
-use Rattle.std.specs.BTreeMap.{is_at}
-use Rattle.std.specs.Map.{remove_entry, set_value}
-use Rattle.std.specs.Ordering.{nat_cmp}
+use Rattle.std.proofs.Common.{◌∙◌, ap, sym}
 use Rattle.std.proofs.lemmas.Result.{err_from_is_err_and}
-use Rattle.fan_world.specs.declared.open_accesses.OpenAccess.{OpenAccess}
-use Rattle.fan_world.proofs.Both.{put_back, put_back_same, set_found, set_removed, stepped_both}
+use Rattle.fan_world.proofs.Both.{goes_after, stays_after, stays_same, stepped_both}
+use Rattle.fan_world.proofs.OpenLemmas.{counted_set}
 use Rattle.fan_world.proofs.open_accesses.OpenAccesses.step.Goals as goal
 
-pub exchange-requires : goal.exchange-requires
-exchange-requires c =
-    rw c.in-Some.ensures.entries
-    (set_found (is_at (nat_cmp c.args.number)) c.args.self.now.entries (record c.in-Some.stepping { marks = [] })
-    (λ held. held.access.place ≡ c.step-stepped.new.access.place) (sym c.step-stepped.ensures.same_place))
+-- an access keeps its place as it steps, so those through each mount stay counted
+pub invariant_of-self-in_err-outcome : goal.invariant_of-self-in_err-outcome
+invariant_of-self-in_err-outcome c =
+    let kept = c.self.inside in
+    counted_set kept.by_number.entries kept.through.entries kept.last c.self.invariant c.args.number
+    c.in-Some.stepping.now _ (sym c.in-Some.ensures.value) (sym c.step.ensures.same_place)
+
+pub invariant_of-self-then-ends_access : goal.invariant_of-self-then-ends_access
+invariant_of-self-then-ends_access c =
+    let kept = c.self.inside in
+    counted_set kept.by_number.entries kept.through.entries kept.last c.self.invariant c.args.number
+    c.in-Some.stepping.now _ (sym c.in-Some.ensures.value) (sym c.step.ensures.same_place)
+
+pub invariant_of-self-else-ends_access : goal.invariant_of-self-else-ends_access
+invariant_of-self-else-ends_access c =
+    let kept = c.self.inside in
+    counted_set kept.by_number.entries kept.through.entries kept.last c.self.invariant c.args.number
+    c.in-Some.stepping.now _ (sym c.in-Some.ensures.value) (sym c.step.ensures.same_place)
 
 pub returns-in_err-outcome-clause-err : goal.returns-in_err-outcome-clause-err
 returns-in_err-outcome-clause-err c =
     let err = err_from_is_err_and c.from_residual.result c.from_residual.ensures.1 in
-    rw err.1
-    (put_back_same (is_at (nat_cmp c.args.number)) c.args.self.now.entries c.take.new.self.entries
-    c.exchange.new.self.entries c.in-Some.stepping (record c.in-Some.stepping { marks = [] })
-    c.step-stepped.new.access c.step-stepped.new.self c.in-Some.ensures.entries c.step-stepped.ensures.same
-    c.exchange.ensures.entries (sym c.take.ensures.found ∙ c.in-Some.is) c.in_err-outcome.ensures.err)
+    let es = c.self.inside.by_number.entries in
+    rw (err.1, ← c.self.view_is)
+    (stays_same c.args.number es c.in-Some.stepping.now c.step.new.access c.step.new.self
+    c.step.ensures.same (sym c.in-Some.ensures.value) c.in_err-outcome.ensures.err)
 
 pub returns-then-ends_access-clause-stepped : goal.returns-then-ends_access-clause-stepped
 returns-then-ends_access-clause-stepped c =
-    let test = is_at (nat_cmp c.args.number) in
-    let es = c.args.self.now.entries in
-    let next : OpenAccess = record { access = c.step-stepped.new.access; marks = c.in-Some.stepping.marks } in
-    let back = put_back test es c.take.new.self.entries c.exchange.new.self.entries c.in-Some.stepping
-    (record c.in-Some.stepping { marks = [] }) c.step-stepped.new.access c.step-stepped.new.self
-    c.in-Some.ensures.entries c.step-stepped.ensures.same c.exchange.ensures.entries in
-    stepped_both c.args.number c.in_ok-outcome.outcome c.args.groups.now c.step-stepped.new.groups es
-    c.end.new.self.entries c.in-Some.stepping c.step-stepped.new.access (sym c.take.ensures.found ∙ c.in-Some.is)
-    c.in_ok-outcome.ensures.ok
-    (c.end.ensures.entries ∙ ap (remove_entry test) back ∙ set_removed test es next
-    ∙ ap (λ (b : Bool). cond b (remove_entry test es) (set_value test es next))
-    (sym (sym c.ends_access.ensures ∙ c.if-ends_access.true)))
+    let es = c.self.inside.by_number.entries in
+    let outcome = c.in_ok-outcome.outcome in
+    rw (← c.self.view_is)
+    (stepped_both c.args.number outcome c.args.groups.now c.step.new.groups es c.end.new.self.entries
+    c.in-Some.stepping.now c.step.new.access (sym c.in-Some.ensures.value) c.in_ok-outcome.ensures.ok
+    (goes_after c.args.number es c.in-Some.stepping.now c.step.new.access c.step.new.self c.step.ensures.same outcome
+    c.end.new.self.entries (sym c.if-ends_access.ensures) c.end.ensures.entries))
 
 pub returns-else-ends_access-clause-stepped : goal.returns-else-ends_access-clause-stepped
 returns-else-ends_access-clause-stepped c =
-    let test = is_at (nat_cmp c.args.number) in
-    let es = c.args.self.now.entries in
-    let next : OpenAccess = record { access = c.step-stepped.new.access; marks = c.in-Some.stepping.marks } in
-    let back = put_back test es c.take.new.self.entries c.exchange.new.self.entries c.in-Some.stepping
-    (record c.in-Some.stepping { marks = [] }) c.step-stepped.new.access c.step-stepped.new.self
-    c.in-Some.ensures.entries c.step-stepped.ensures.same c.exchange.ensures.entries in
-    stepped_both c.args.number c.in_ok-outcome.outcome c.args.groups.now c.step-stepped.new.groups es
-    c.exchange.new.self.entries c.in-Some.stepping c.step-stepped.new.access
-    (sym c.take.ensures.found ∙ c.in-Some.is) c.in_ok-outcome.ensures.ok
-    (back ∙ ap (λ (b : Bool). cond b (remove_entry test es) (set_value test es next))
-    (sym (sym c.ends_access.ensures ∙ c.if-ends_access.false)))
+    let es = c.self.inside.by_number.entries in
+    let outcome = c.in_ok-outcome.outcome in
+    rw (← c.self.view_is)
+    (stepped_both c.args.number outcome c.args.groups.now c.step.new.groups es _
+    c.in-Some.stepping.now c.step.new.access (sym c.in-Some.ensures.value) c.in_ok-outcome.ensures.ok
+    (stays_after c.args.number es c.in-Some.stepping.now c.step.new.access c.step.new.self c.step.ensures.same outcome
+    (sym c.if-ends_access.ensures)))
