@@ -1,9 +1,11 @@
 // What a group is told of a happening: fanotify(7).
-ghost use Rattle.std.specs.Prelude.{◌≡◌};
+ghost use Rattle.std.specs.Prelude.{◌≡◌, IfOk};
 ghost use Rattle.fan_event.specs.Events.{event_for, with_bits};
 
 use super::target::Target;
 use fan_bits::{Happening, InitWords};
+use fan_io::NoMemory;
+use std::alloc::Global;
 
 /// An event for one group.
 #[derive(Debug, PartialEq, Eq, Drop)]
@@ -26,6 +28,22 @@ impl Event {
         ensures { self.new ≡ with_bits bits self.old }
     {
         self.bits |= bits;
+    }
+
+    /// A copy of it.
+    ///
+    /// # Errors
+    /// `NoMemory` if no memory was found for its name.
+    pub fn copy_in(&self, alloc: Global) -> Result<Event, NoMemory>
+        ensures { IfOk result (λ copy. copy ≡ self.now) }
+    {
+        Ok(Event {
+            bits: self.bits,
+            ondir: self.ondir,
+            who: self.who,
+            perm: self.perm,
+            target: self.target.copy_in(alloc)?,
+        })
     }
 }
 

@@ -43,6 +43,16 @@ impl Name {
         })
     }
 
+    /// A copy of it.
+    ///
+    /// # Errors
+    /// `NoMemory` if no memory was found for its bytes.
+    pub fn copy_in(&self, alloc: Global) -> Result<Name, NoMemory>
+        ensures { IfOk result (λ copy. copy ≡ self.now) }
+    {
+        Name::of(alloc, self.bytes())
+    }
+
     /// Its bytes.
     pub fn bytes(&self) -> &[u8]
         ensures value { result.now ≡ self.now }

@@ -1,5 +1,9 @@
 // The object of an event.
+ghost use Rattle.std.specs.Prelude.{◌≡◌, IfOk};
+
 use super::name::Name;
+use fan_io::NoMemory;
+use std::alloc::Global;
 
 /// The object of an event as the group reports it. Numbers are from 1 to 65,535.
 #[derive(Debug, PartialEq, Eq, Drop)]
@@ -23,4 +27,42 @@ pub enum Target {
         /// The name of the entry in that directory, if it is reported.
         name: Option<Name>,
     },
+}
+
+impl Target {
+    /// A copy of it.
+    ///
+    /// # Errors
+    /// `NoMemory` if no memory was found for its name.
+    pub fn copy_in(&self, alloc: Global) -> Result<Target, NoMemory>
+        ensures { IfOk result (λ copy. copy ≡ self.now) }
+    {
+        match self {
+            Target::Fd { mount, inode } => Ok(Target::Fd {
+                mount: *mount,
+                inode: *inode,
+            }),
+            Target::Handle {
+                fs,
+                object,
+                dir,
+                name,
+            } => Ok(Target::Handle {
+                fs: *fs,
+                object: *object,
+                dir: *dir,
+                name: copy_of(name, alloc)?,
+            }),
+        }
+    }
+}
+
+// A copy of a name, if there is one.
+fn copy_of(name: &Option<Name>, alloc: Global) -> Result<Option<Name>, NoMemory>
+    ensures { IfOk result (λ copy. copy ≡ name.now) }
+{
+    match name {
+        Some(name) => Ok(Some(name.copy_in(alloc)?)),
+        None => Ok(None),
+    }
 }

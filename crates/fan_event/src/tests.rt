@@ -47,3 +47,11 @@ fn names_tell_keys_apart(rt: HostRuntime) -> Result<(), Fail> {
     assert_eq!(rt; created.bits, 0x300);
     Ok(())
 }
+
+#[test]
+fn a_copy_is_the_same_event(rt: HostRuntime) -> Result<(), Fail> {
+    let created = at_entry(rt.alloc(), 0x100, b"a")?;
+    let copy = created.copy_in(rt.alloc())?;
+    assert_eq!(rt; copy, created);
+    Ok(())
+}
