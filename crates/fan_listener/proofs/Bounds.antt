@@ -1,5 +1,5 @@
 -- How far each step of a listener moves its numbers.
-use Rattle.std.proofs.Common.{◌≡◌, ℕ, ◌+◌, ◌-◌, ◌≤◌, Bool, true, false, not, cond, List, [], ◌∷◌, length, ◌==◌, Option, Some, None, Result, Ok, Err, IfOk, OnErr, refl, ap, sym, subst, arith, length-append, length-drop, nat_lt, nat_le}
+use Rattle.std.proofs.Common.{◌≡◌, ℕ, ◌+◌, ◌-◌, ◌≤◌, Bool, true, false, not, cond, List, [], ◌∷◌, ◌++◌, length, ◌==◌, Option, Some, None, Result, Ok, Err, IfOk, OnErr, refl, ap, sym, subst, arith, length-append, length-drop, nat_lt, nat_le}
 use Rattle.fan_bits.specs.declared.errno.Errno.{Errno}
 use Rattle.fan_bits.specs.declared.errno.Errno.TheVariants as errno
 use Rattle.fan_event.specs.declared.event.Event.{Event}
@@ -26,15 +26,26 @@ stays entries state = record { made = omega arith; given = omega arith; same_fla
 pub makes-put : (state : ListenerState) (event : Event) → Makes 1 state (put state event).1
 unfolding queued
 makes-put state event =
-    by_put_to (λ done. Makes 1 state done.1) state event (λ closed. stays 1 state) (λ entry opened. stays 1 state)
-    (λ opened. record { made = omega arith; given = rw length-append (omega arith); same_flags = refl; same_limit = refl })
+    by_put_to (λ done. Makes 1 state done.1) state event (λ closed. stays 1 state)
+    (λ entry opened. stays 1 state) (λ opened. longer _)
     (λ entry opened plain. record {
       made = omega arith;
       given = rw length-change_first (omega arith);
       same_flags = refl;
       same_limit = refl;
     })
-    (λ opened. record { made = omega arith; given = rw length-append (omega arith); same_flags = refl; same_limit = refl })
+    (λ opened. longer _)
+  where
+    longer : (entry : Entry) → Makes 1 state (record state {
+      queue = state.queue ++ entry ∷ [];
+      next_entry = state.next_entry + 1;
+    })
+    longer entry = record {
+      made = omega arith;
+      given = rw length-append (omega arith);
+      same_flags = refl;
+      same_limit = refl;
+    }
 
 -- whether a put is done or refused, it makes one entry at most
 pub makes-tried : {E : Type 0} (old new : ListenerState) (event : Event) (result : Result Put E)
@@ -49,7 +60,7 @@ fd_after-le fd (Told event) = omega arith
 fd_after-le fd Lost = omega arith
 
 -- entries take one descriptor each at most
-next_fd_after-le : (fd : ℕ) (entries : List Entry) → next_fd_after fd entries ≤ fd + length entries
+pub next_fd_after-le : (fd : ℕ) (entries : List Entry) → next_fd_after fd entries ≤ fd + length entries
 next_fd_after-le fd [] = omega arith
 next_fd_after-le fd (entry ∷ rest) = omega (
   arith,

@@ -1,22 +1,18 @@
 -- What a put on a queue makes: one of four outcomes.
-use Rattle.std.proofs.Common.{◌≡◌, ℕ, ◌+◌, Bool, true, false, cond, List, find, Option, Some, None, length, ◌≤◌, refl, ap, sym, subst, ◌∙◌, arith, count_by}
-use Rattle.std.proofs.lemmas.List.Sums.{sum_by-append}
+use Rattle.std.proofs.Common.{◌≡◌, ℕ, Bool, true, false, cond, find, Option, Some, None, ◌≤◌, refl, ap, sym, subst, ◌∙◌, arith, append-nil}
 use Rattle.fan_event.specs.declared.event.Event.{Event}
 use Rattle.fan_lists.specs.First.{change_first}
-use Rattle.fan_lists.proofs.FirstLemmas.{count_by-change_first}
-use Rattle.fan_queue.specs.declared.entry.Body.{Body}
 use Rattle.fan_queue.specs.declared.entry.Body.TheVariants.{Told, Lost}
 use Rattle.fan_queue.specs.declared.entry.Entry.{Entry}
 use Rattle.fan_queue.specs.declared.entry.Put.{Put}
 use Rattle.fan_queue.specs.declared.entry.Put.TheVariants as puts
-use Rattle.fan_queue.specs.Queue.{put, put_event, put_lost, queued, is_full, is_lost, merged, takes, with_more}
+use Rattle.fan_queue.specs.Queue.{put, put_event, put_lost, queued, is_full, is_lost, merged, takes}
 use Rattle.fan_queue.specs.QueueState.{QueueState}
 use Rattle.fan_queue.proofs.QueueLemmas.{none_takes}
-use Rattle.fan_listener.specs.Queue.{asks, body_asks, is_queued, limit_of, put as put_to, put_in, queue_of, with_queue}
+use Rattle.fan_listener.specs.Queue.{is_queued, limit_of, put as put_to, put_in, queue_of, with_queue}
 use Rattle.fan_listener.specs.ListenerState.{ListenerState}
-use Rattle.fan_listener.specs.declared.answers.Pending.{Pending}
-use Rattle.fan_listener.specs.declared.answers.Kept.{Kept}
-use Rattle.fan_listener.specs.Stored.{IsStored}
+use Rattle.fan_listener.specs.Records.{next_fd_after, pendings}
+use Rattle.fan_listener.proofs.WaitLemmas.{next_fd_after-append, next_fd_after-change_first, pendings-append, pendings-change_first}
 
 module _ (P : Put × QueueState → Type 0) (state : QueueState) (event : Event)
     (stays : (entry : ℕ) → P (puts.Overflow entry, state))
@@ -30,7 +26,8 @@ module _ (P : Put × QueueState → Type 0) (state : QueueState) (event : Event)
   by_lost (Some entry) = stays entry.number
   by_lost None = loses
 
-  by_event : (found : Option Entry) → find (takes event) state.entries ≡ found → P (put_event state event found)
+  by_event : (found : Option Entry) → find (takes event) state.entries ≡ found
+      → P (put_event state event found)
   by_event (Some entry) is = merges entry.number (plain event.perm refl)
     where
       plain : (perm : Bool) → event.perm ≡ perm → event.perm ≡ false
@@ -70,50 +67,92 @@ module _ (P : Put × ListenerState → Type 0) (state : ListenerState) (event : 
       by false is = by_put (λ done. P (put_in state done)) (queue_of state) event (λ entry. stays entry is)
           (loses is) (λ entry. merges entry is) (comes is)
 
--- a merge makes no permission event
-asks-merged : (event : Event) (entry : Entry) → asks (merged event entry) ≡ asks entry
-unfolding merged
-asks-merged event entry = by entry.body
-  where
-    by : (body : Body) → body_asks (with_more event.bits body) ≡ body_asks body
-    by (Told old) = refl
-    by Lost = refl
+-- ---- what a put does to the events of a queue
 
--- how many permission events are queued after a put
-pub asks-put : (state : QueueState) (event : Event)
-    → let done = put state event in
-    count_by asks done.1.entries
-    ≡ count_by asks state.entries + cond (is_queued done.0) (cond event.perm 1 0) 0
+-- the events of a queue wait under the same descriptors as before
+pub record Keeps (old new : QueueState) : Type 0 where
+  pub limit : new.limit ≡ old.limit
+  pub waiting : (fd : ℕ) → pendings fd new.entries ≡ pendings fd old.entries
+  pub next : (fd : ℕ) → next_fd_after fd new.entries ≡ next_fd_after fd old.entries
+  pub made : old.next_entry ≤ new.next_entry
+
+-- they do where an event was not queued itself
+pub keeps-put : (old new : QueueState) (event : Event) (outcome : Put) → (outcome, new) ≡ put old event
+    → is_queued outcome ≡ false → Keeps old new
 unfolding queued
-asks-put state event = by_put P state event (λ entry. omega arith)
-    (sum_by-append (λ e. cond (asks e) 1 0) state.entries _ ∙ grind arith)
-    (λ entry plain. count_by-change_first (takes event) asks (merged event) state.entries (asks-merged event) ∙ omega arith)
-    (sum_by-append (λ e. cond (asks e) 1 0) state.entries _ ∙ grind arith)
+keeps-put old new event outcome is =
+    subst P (sym is) (by_put P old event stays loses merges comes)
   where
     P : Put × QueueState → Type 0
-    P done = count_by asks done.1.entries
-        ≡ count_by asks state.entries + cond (is_queued done.0) (cond event.perm 1 0) 0
+    P done = is_queued done.0 ≡ false → Keeps old done.1
 
--- the limit stays
-limit-put : (state : QueueState) (event : Event) → (put state event).1.limit ≡ state.limit
-unfolding queued
-limit-put state event = by_put (λ done. done.1.limit ≡ state.limit) state event (λ entry. refl) refl
-    (λ entry plain. refl) refl
+    same : Keeps old old
+    same = record { limit = refl; waiting = λ fd. refl; next = λ fd. refl; made = omega arith }
 
--- what is kept beside a queue after a put
-pub stored-put : {flags limit asked more room : ℕ} (old new : QueueState) {pending : List Pending}
-    {answers : List Kept} (event : Event) (outcome : Put) → (outcome, new) ≡ put old event
-    → cond event.perm 1 0 ≡ more → old.limit ≡ limit_of flags limit → asked ≡ count_by asks old.entries
-    → length answers + (length pending + asked + more) ≤ room
-    → IsStored flags limit new (asked + cond (is_queued outcome) more 0) pending answers room
-stored-put {flags} {limit} {asked} {more} {room} old new {pending} {answers} event outcome is asks_more limited counted fits =
-    let same : new.limit ≡ old.limit = ap (λ (done : Put × QueueState). done.1.limit) is ∙ limit-put old event in
-    let queued : count_by asks new.entries
-    ≡ count_by asks old.entries + cond (is_queued outcome) (cond event.perm 1 0) 0 =
-    subst (λ (done : Put × QueueState). count_by asks done.1.entries
-    ≡ count_by asks old.entries + cond (is_queued done.0) (cond event.perm 1 0) 0) (sym is) (asks-put old event) in
-    record {
-      limited = same ∙ limited;
-      counted = rw (queued, asks_more, counted) refl;
-      fits = grind (arith, fits);
+    stays : (entry : ℕ) → P (puts.Overflow entry, old)
+    stays entry other = same
+
+    loses : P (puts.Overflow old.next_entry, queued old Lost)
+    loses other = record {
+      limit = refl;
+      waiting = λ fd. pendings-append fd old.entries _ ∙ append-nil (pendings fd old.entries);
+      next = λ fd. next_fd_after-append fd old.entries _;
+      made = omega arith;
     }
+
+    merges : (entry : ℕ) → event.perm ≡ false → P (
+      puts.Merged entry,
+      record old { entries = change_first (takes event) (merged event) old.entries },
+    )
+    merges entry plain other = record {
+      limit = refl;
+      waiting = λ fd. pendings-change_first event fd old.entries;
+      next = λ fd. next_fd_after-change_first event fd old.entries;
+      made = omega arith;
+    }
+
+    comes : P (puts.Queued old.next_entry, queued old (Told event))
+    comes other = absurd cc
+
+-- an event that was queued is the next entry
+pub queued-put : (old new : QueueState) (event : Event) (outcome : Put) → (outcome, new) ≡ put old event
+    → is_queued outcome ≡ true
+    → (outcome ≡ puts.Queued old.next_entry) × (new ≡ queued old (Told event))
+queued-put old new event outcome is =
+    subst P (sym is) (by_put P old event (λ entry other. absurd cc) (λ other. absurd cc)
+    (λ entry plain other. absurd cc) (λ other. (refl, refl)))
+  where
+    P : Put × QueueState → Type 0
+    P done =
+        is_queued done.0 ≡ true → (done.0 ≡ puts.Queued old.next_entry) × (done.1 ≡ queued old (Told event))
+
+-- the number of an entry that was queued
+abbrev entry_in : Put → ℕ
+entry_in (puts.Queued entry) = entry
+entry_in _ = 0
+
+pub queued_as : (old new : QueueState) (event : Event) (outcome : Put) (entry : ℕ)
+    → (outcome, new) ≡ put old event → outcome ≡ puts.Queued entry
+    → (entry ≡ old.next_entry) × (new ≡ queued old (Told event))
+queued_as old new event outcome entry is queued_is =
+    let done = queued-put old new event outcome is (ap is_queued queued_is) in
+    (ap entry_in (sym queued_is ∙ done.0), done.1)
+
+-- and no other outcome queues one
+pub not_queued : (outcome : Put) → ((entry : ℕ) → outcome ≡ puts.Queued entry → ⊥) → is_queued outcome ≡ false
+not_queued (puts.Queued entry) other = absurd (other entry refl)
+not_queued (puts.Merged entry) other = refl
+not_queued (puts.Overflow entry) other = refl
+not_queued puts.Closed other = refl
+
+-- a put to the queue of an open listener is a put to it
+pub put-queue : (state : ListenerState) (old new : QueueState) (event : Event) (outcome : Put)
+    → state.closed ≡ false → old.limit ≡ limit_of state.flags state.limit → old.entries ≡ state.queue
+    → old.next_entry ≡ state.next_entry → (outcome, new) ≡ put old event
+    → (outcome, with_queue state new) ≡ put_to state event
+unfolding put_to
+put-queue state old new event outcome opened limit entries next is =
+    let same : old ≡ queue_of state =
+    λ i. record { limit = limit i; entries = entries i; next_entry = next i } in
+    ap (put_in state) (is ∙ ap (λ queue. put queue event) same)
+    ∙ sym (ap (λ closed. cond closed (puts.Closed, state) (put_in state (put (queue_of state) event))) opened)

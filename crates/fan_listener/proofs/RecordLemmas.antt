@@ -1,17 +1,13 @@
 -- The front of a queue by division.
-use Rattle.std.proofs.Common.{◌≡◌, ℕ, ◌+◌, ◌-◌, ◌*◌, ◌<◌, ◌≤◌, true, false, cond, List, [], ◌∷◌, ◌++◌, append_assoc, Bool, count_by, length-append, drop, take, length, min, zero, suc, refl, ap, sym, ◌∙◌, arith, nat_le, slice_get, Option, Some, None, IfSome, IfNone}
+use Rattle.std.proofs.Common.{◌≡◌, ℕ, ◌+◌, ◌-◌, ◌*◌, ◌<◌, ◌≤◌, true, false, List, [], ◌∷◌, ◌++◌, append_assoc, drop, take, length, min, zero, suc, refl, ap, sym, ◌∙◌, arith, nat_le, slice_get, Option, Some, None, IfSome, IfNone}
 use native.Mathlib.Numerals.{unary_clauses}
 use Rattle.std.proofs.lemmas.Bool.Decides.{nat_tests}
 use Rattle.fan_queue.specs.declared.entry.Entry.{Entry}
-use Rattle.fan_queue.specs.declared.entry.Body.{Body}
-use Rattle.fan_queue.specs.declared.entry.Body.TheVariants.{Told, Lost}
-use Rattle.std.proofs.lemmas.List.Sums.{sum_by-cons, sum_by-take-drop}
 use Rattle.std.proofs.lemmas.List.{drop_all, drop_more, get_or-take, length-take}
 use Rattle.std.proofs.lemmas.Option.{get_or_from_slice_get, slice_get_within, some_pair_parts}
 use Rattle.fan_queue.specs.Queue.{taken, taken_from}
 use Rattle.fan_queue.specs.QueueState.{QueueState}
-use Rattle.fan_listener.specs.Queue.{asks, body_asks}
-use Rattle.fan_listener.specs.Records.{front_within, pendings, pending_of, fd_after}
+use Rattle.fan_listener.specs.Records.{front_within}
 
 -- so many records fit, and no more
 pub front_by_count : (count size : ℕ) (entries : List Entry) → 24 * count ≤ size
@@ -34,48 +30,21 @@ pub six_pieces : (old a b c d e f : List ℕ) {r1 r2 r3 r4 r5 r6 : List ℕ} →
 six_pieces old a b c d e f one two three four five six =
     rw (six, five, four, three, two, one) (simp append_assoc)
 
--- a list of one element or of none
-one_or_none : {X : Type 0} (b : Bool) (x : X) → length (cond b (x ∷ []) []) ≡ cond b 1 0
-one_or_none true x = refl
-one_or_none false x = refl
-
--- one event waits where a permission event was read
-length-pending_of : (fd number : ℕ) (body : Body)
-    → length (pending_of fd number body) ≡ cond (body_asks body) 1 0
-length-pending_of fd number (Told event) = one_or_none event.perm (record { fd = fd; entry = number })
-length-pending_of fd number Lost = refl
-
--- so many events wait after a read as permission events were read
-length-pendings : (fd : ℕ) (entries : List Entry) → length (pendings fd entries) ≡ count_by asks entries
-length-pendings fd [] = refl
-length-pendings fd (entry ∷ rest) =
-    rw (
-      length-append,
-      sum_by-cons,
-      length-pendings
-          (fd_after fd entry.body) rest,
-      length-pending_of fd entry.number entry.body,
-    ) refl
-
--- so many permission events less are queued after a read
-pub asked_after_read : (fd count : ℕ) (queue : List Entry)
-    → length (pendings fd (take count queue)) + count_by asks (drop count queue) ≡ count_by asks queue
-asked_after_read fd count queue =
-    rw (length-pendings fd (take count queue)) (sum_by-take-drop (λ entry. cond (asks entry) 1 0) queue count)
-
 -- a front goes on with the entry at an index
 pub front_step : (count index : ℕ) (entries : List Entry) (entry : Entry) → index < count
     → slice_get entries index ≡ Some entry
     → drop index (take count entries) ≡ entry ∷ drop (index + 1) (take count entries)
 front_step count index entries entry below is =
     let within = slice_get_within entries index entry is in
-    let long : index < length (take count entries) = rw length-take (grind (arith, nat_tests, below, within)) in
+    let long : index < length (take count entries) =
+    rw length-take (grind (arith, nat_tests, below, within)) in
     drop_more (take count entries) index entry long
     ∙ ap (λ x. x ∷ drop (index + 1) (take count entries))
     (get_or-take count entries index entry below ∙ get_or_from_slice_get entries index entry entry is)
 
 -- and ends there
-pub front_end : (index count : ℕ) (entries : List Entry) → count ≤ index → drop index (take count entries) ≡ []
+pub front_end : (index count : ℕ) (entries : List Entry) → count ≤ index
+    → drop index (take count entries) ≡ []
 front_end index count entries past =
     drop_all index (take count entries) (rw length-take (grind (arith, nat_tests, past)))
 

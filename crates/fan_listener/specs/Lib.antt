@@ -1,4 +1,5 @@
 pub mod ListenerState
+pub mod Asked
 pub mod Stored
 pub mod Queue
 pub mod Records
@@ -6,3 +7,4 @@ pub mod Responses
 pub mod Refusals
 pub mod Groups
 pub mod Bounds
+pub mod Shut

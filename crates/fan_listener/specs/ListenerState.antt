@@ -2,16 +2,17 @@
 use Rattle.std.specs.Prelude.{ℕ, Bool, false, List, []}
 use Rattle.fan_queue.specs.declared.entry.Entry.{Entry}
 use Rattle.fan_listener.specs.declared.answers.Pending.{Pending}
-use Rattle.fan_listener.specs.declared.answers.Kept.{Kept}
+use Rattle.fan_listener.specs.declared.answers.Verdict.{Verdict}
 
 -- the flags and the limit with which it was made; the queued entries; the permission events that
--- were read; the verdicts that weren't taken yet; the next numbers of an entry and of a descriptor
+-- were read and wait; the verdicts that weren't taken yet, in the order of their entries; the next numbers
+-- of an entry and of a descriptor
 pub record ListenerState : Type 0 where
   pub flags : ℕ
   pub limit : ℕ
   pub queue : List Entry
   pub pending : List Pending
-  pub answers : List Kept
+  pub answers : List (ℕ × Verdict)
   pub next_entry : ℕ
   pub next_fd : ℕ
   pub closed : Bool

@@ -2,9 +2,6 @@
 use Rattle.std.specs.Prelude.{ℕ, Bool, true, false, if◌then◌else◌, Option, Some, None}
 use Rattle.fan_bits.specs.Words.{occurs, unlimited_queue}
 use Rattle.fan_event.specs.declared.event.Event.{Event}
-use Rattle.fan_queue.specs.declared.entry.Body.{Body}
-use Rattle.fan_queue.specs.declared.entry.Body.TheVariants.{Told, Lost}
-use Rattle.fan_queue.specs.declared.entry.Entry.{Entry}
 use Rattle.fan_queue.specs.declared.entry.Put.{Put}
 use Rattle.fan_queue.specs.declared.entry.Put.TheVariants as puts
 use Rattle.fan_queue.specs.Queue.{put as put_on}
@@ -40,12 +37,3 @@ put state event =
 abbrev pub is_queued : Put → Bool
 is_queued (puts.Queued entry) = true
 is_queued _ = false
-
--- a permission event
-abbrev pub body_asks : Body → Bool
-body_asks (Told event) = event.perm
-body_asks Lost = false
-
--- a permission event is queued there
-abbrev pub asks : Entry → Bool
-asks entry = body_asks entry.body

@@ -34,7 +34,7 @@ fd_after fd Lost = fd
 -- a permission event waits for its answer under its descriptor
 abbrev pub pending_of : ℕ → ℕ → Body → List Pending
 pending_of fd number (Told event) =
-    if event.perm then (record { fd = fd; entry = number }) ∷ [] else []
+    if event.perm then (record { fd = fd; entry = number; event = event }) ∷ [] else []
 pending_of fd number Lost = []
 
 -- the records of entries, the first of which has this descriptor

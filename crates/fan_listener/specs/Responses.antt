@@ -1,13 +1,15 @@
 -- How permission events get their answers: fanotify(7).
-use Rattle.std.specs.Prelude.{ℕ, ◌==◌, ◌^◌, nat_lt, Bool, true, not, if◌then◌else◌, List, [], ◌∷◌, ◌++◌, length, find, take, drop, Option, Some, None, option_map, Result, Ok, Err}
+use Rattle.std.specs.Prelude.{ℕ, ◌==◌, ◌^◌, nat_lt, Bool, true, not, if◌then◌else◌, List, [], length, find, take, drop, Option, Some, None, option_map, Result, Ok, Err}
+use Rattle.std.specs.BTreeMap.{insert_entry, is_at}
 use Rattle.std.specs.Int.{from_le_bytes, w32}
+use Rattle.std.specs.Map.{lookup, remove_entry}
+use Rattle.std.specs.Ordering.{nat_cmp}
 use Rattle.fan_bits.specs.declared.errno.Errno.{Errno}
 use Rattle.fan_bits.specs.declared.errno.Errno.TheVariants as errno
 use Rattle.fan_listener.specs.declared.answers.Answer.{Answer}
 use Rattle.fan_listener.specs.declared.answers.Answer.TheVariants as answers
 use Rattle.fan_listener.specs.declared.answers.Answered.{Answered}
 use Rattle.fan_listener.specs.declared.answers.Pending.{Pending}
-use Rattle.fan_listener.specs.declared.answers.Kept.{Kept}
 use Rattle.fan_listener.specs.declared.answers.Verdict.{Verdict}
 use Rattle.fan_listener.specs.declared.answers.Verdict.TheVariants.{Allow, Deny}
 use Rattle.fan_lists.specs.First.{without_first}
@@ -26,14 +28,6 @@ answer_by Deny = answers.Denied
 abbrev pub is_under : ℕ → Pending → Bool
 is_under fd pending = pending.fd == fd
 
--- the verdict is on this entry
-abbrev pub is_to : ℕ → Kept → Bool
-is_to entry kept = kept.entry == entry
-
--- the verdict that is kept
-abbrev pub verdict_in : Kept → Verdict
-verdict_in kept = kept.verdict
-
 -- the answer by a verdict, if one was given; without one it is Closed once the group is closed
 abbrev pub answer_or_closed : Bool → Option Verdict → Answer
 answer_or_closed closed (Some given) = answer_by given
@@ -49,11 +43,23 @@ unfoldable pub waiting_under : ℕ → List Pending → Option ℕ
 waiting_under fd pending =
     if nat_lt fd (2 ^ 31) then option_map entry_of (find (is_under fd) pending) else None
 
+-- the verdict on an entry, if it was given
+abbrev pub verdict_on : ℕ → List (ℕ × Verdict) → Option Verdict
+verdict_on entry answers = lookup (is_at (nat_cmp entry)) answers
+
+-- the verdicts with that on an entry, which comes to its place in the order
+abbrev pub with_verdict : ℕ → Verdict → List (ℕ × Verdict) → List (ℕ × Verdict)
+with_verdict entry verdict answers = insert_entry nat_cmp answers entry verdict
+
+-- the verdicts without that on an entry
+abbrev pub without_verdict : ℕ → List (ℕ × Verdict) → List (ℕ × Verdict)
+without_verdict entry answers = remove_entry (is_at (nat_cmp entry)) answers
+
 -- the entry that waits under a descriptor has its verdict
 abbrev pub answered : ListenerState → ℕ → ℕ → Verdict → ListenerState
 answered state fd entry verdict = record state {
   pending = without_first (is_under fd) state.pending;
-  answers = state.answers ++ (record { entry = entry; verdict = verdict }) ∷ [];
+  answers = with_verdict entry verdict state.answers;
 }
 
 -- a response with a descriptor, what its value stands for, and the entry that waits: EINVAL, ENOENT
@@ -84,8 +90,8 @@ written state bytes =
 -- the answer to the permission event of an entry, and the listener after it was taken
 unfoldable pub answer_of : ListenerState → ℕ → Answer × ListenerState
 answer_of state entry = (
-  answer_or_closed state.closed (option_map verdict_in (find (is_to entry) state.answers)),
-  record state { answers = without_first (is_to entry) state.answers },
+  answer_or_closed state.closed (verdict_on entry state.answers),
+  record state { answers = without_verdict entry state.answers },
 )
 
 -- closing frees the queue; events without a verdict wait no more, and verdicts that were given stay

@@ -4,6 +4,7 @@ ghost use Rattle.fan_listener.specs.Responses.{answer_by};
 ghost use Rattle.fan_listener.specs.Refusals.{read_errno, write_errno};
 
 use fan_bits::Errno;
+use fan_event::Event;
 
 /// What a response says to a permission event: fanotify(7).
 #[derive(Clone, Copy, Debug, PartialEq, Eq)]
@@ -100,19 +101,12 @@ impl WriteRefused {
 }
 
 // A permission event that was read and waits for its answer.
-#[derive(Clone, Copy, Debug, PartialEq, Eq)]
+#[derive(Drop)]
 pub(crate) struct Pending {
     // Its descriptor.
     pub(crate) fd: u32,
     // The number of its entry.
     pub(crate) entry: u64,
-}
-
-// A verdict that was given and not taken yet.
-#[derive(Clone, Copy, Debug, PartialEq, Eq)]
-pub(crate) struct Kept {
-    // The number of the entry.
-    pub(crate) entry: u64,
-    // What was given.
-    pub(crate) verdict: Verdict,
+    // The event itself.
+    pub(crate) event: Event,
 }

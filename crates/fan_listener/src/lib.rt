@@ -18,9 +18,13 @@
 #![tactic(auto)]
 
 mod answers;
+mod asked;
+mod kept;
 mod listener;
 mod records;
 mod responses;
+mod rooms;
+mod shut;
 #[cfg(test)]
 mod tests;
 

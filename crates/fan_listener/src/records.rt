@@ -1,9 +1,8 @@
-// The records of a read, and the events that wait for an answer once it is done: fanotify(7).
+// The records of a read: fanotify(7).
 ghost use Rattle.std.specs.Prelude.{◌≡◌, ℕ, ◌+◌, ◌*◌, ◌^◌, ◌<◌, ◌≤◌, ◌++◌, ◌∷◌, List, length, take, drop, IfOk, OnOk};
 ghost use Rattle.fan_queue.specs.declared.entry.Entry.{Entry};
-ghost use Rattle.fan_listener.specs.Records.{record_bytes, record_of, records, pending_of, pendings, fd_after, next_fd_after, front_within};
+ghost use Rattle.fan_listener.specs.Records.{record_bytes, record_of, records, fd_after, next_fd_after, front_within};
 
-use super::answers::Pending;
 use fan_bits::FAN_Q_OVERFLOW;
 use fan_io::NoMemory;
 use fan_queue::{Body, Entry, Queue};
@@ -21,13 +20,11 @@ const VERSION: u8 = 3;
 // FAN_NOFD: the overflow record has no descriptor.
 const NOFD: i32 = -1;
 
-// What a read of some entries gives, and what waits afterwards.
+// What a read of some entries gives.
 #[derive(Drop)]
 pub(crate) struct Taken {
     // The records.
     pub(crate) bytes: Vec<u8>,
-    // The permission events among the entries.
-    pub(crate) pending: Vec<Pending>,
     // The next descriptor.
     pub(crate) next_fd: u32,
 }
@@ -43,8 +40,7 @@ pub(crate) fn front_len(len: usize, size: u32) -> usize
     fitting.min(len)
 }
 
-// The records of so many entries from the front on, the first of which gets this descriptor, and what
-// waits afterwards.
+// The records of so many entries from the front on, the first of which gets this descriptor.
 pub(crate) fn take_entries(
     alloc: Global,
     queue: &Queue,
@@ -55,14 +51,11 @@ pub(crate) fn take_entries(
     requires few { first_fd + count < 2 ^ 31 }
     ensures bytes { IfOk result (λ taken.
         taken.bytes.items ≡ records first_fd (take count queue.now.entries)) }
-    ensures pending { IfOk result (λ taken.
-        taken.pending.items ≡ pendings first_fd (take count queue.now.entries)) }
     ensures next { IfOk result (λ taken.
         taken.next_fd ≡ next_fd_after first_fd (take count queue.now.entries)) }
 {
     let mut taken = Taken {
         bytes: Vec::new(alloc),
-        pending: Vec::new(alloc),
         next_fd: first_fd,
     };
     for index in 0..count {
@@ -79,8 +72,6 @@ fn take_entry(taken: &mut Taken, entry: &Entry) -> Result<(), NoMemory>
     requires { taken.old.next_fd < 2 ^ 31 }
     ensures bytes { OnOk result (taken.new.bytes.items
         ≡ taken.old.bytes.items ++ record_of taken.old.next_fd entry.now.body) }
-    ensures pending { OnOk result (taken.new.pending.items ≡ taken.old.pending.items
-        ++ pending_of taken.old.next_fd entry.now.number entry.now.body) }
     ensures next { OnOk result (taken.new.next_fd ≡ fd_after taken.old.next_fd entry.now.body) }
 {
     let fd = taken.next_fd;
@@ -92,12 +83,6 @@ fn take_entry(taken: &mut Taken, entry: &Entry) -> Result<(), NoMemory>
                 fd as i32,
                 event.who,
             )?;
-            if event.perm {
-                taken.pending.push(Pending {
-                    fd,
-                    entry: entry.number,
-                })?;
-            }
             taken.next_fd += 1;
         }
         Body::Lost => push_record(&mut taken.bytes, u64::from(FAN_Q_OVERFLOW), NOFD, 0)?,

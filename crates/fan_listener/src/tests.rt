@@ -72,6 +72,36 @@ fn histories_come_out_as_worked_out(rt: HostRuntime) -> Result<(), Fail> {
     Ok(())
 }
 
+#[test]
+fn events_that_wait_are_answered_in_any_order(rt: HostRuntime) -> Result<(), Fail> {
+    let history =
+        "n.4.9 p.65536.50.4 p.65536.51.5 p.65536.52.6 r.72 w.2.1 w.1.2 w.0.1 q.1 q.2 q.3 w.1.1";
+    let outcomes = play(rt.alloc(), history)?;
+    let wanted =
+        "Q1 Q2 Q3 [65536 0 50][65536 1 51][65536 2 52] A3 A2 A1 allow deny allow NotPending:Enoent";
+    assert_eq!(rt; outcomes.as_str(), wanted);
+    Ok(())
+}
+
+#[test]
+fn an_event_takes_no_response_before_it_is_read(rt: HostRuntime) -> Result<(), Fail> {
+    let history = "n.4.9 p.65536.50.4 t.32.41.4 p.65536.51.5 r.48 w.2.1 w.0.1 r.24 w.2.1 q.3";
+    let outcomes = play(rt.alloc(), history)?;
+    let wanted = "Q1 Q2 Q3 [65536 0 50][32 1 41] NotPending:Enoent A1 [65536 2 51] A3 allow";
+    assert_eq!(rt; outcomes.as_str(), wanted);
+    Ok(())
+}
+
+#[test]
+fn after_a_close_nothing_waits_and_verdicts_stay(rt: HostRuntime) -> Result<(), Fail> {
+    let history =
+        "n.4.9 p.65536.50.4 p.65536.51.5 p.65536.52.6 r.48 w.1.2 q.1 c w.0.1 q.1 q.2 q.3 q.2";
+    let outcomes = play(rt.alloc(), history)?;
+    let wanted = "Q1 Q2 Q3 [65536 0 50][65536 1 51] A2 wait ok Closed:Ebadf shut deny shut shut";
+    assert_eq!(rt; outcomes.as_str(), wanted);
+    Ok(())
+}
+
 // The example of the crate's documentation.
 #[test]
 #[tactic(auto, unfolding(crate::specs::ListenerState::new_listener))]

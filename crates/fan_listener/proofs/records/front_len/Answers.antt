@@ -4,4 +4,5 @@ use Rattle.fan_listener.proofs.records.front_len.Goals as goal
 
 pub returns-clause-front : goal.returns-clause-front
 returns-clause-front c = λ entries same.
-    rw (c.min.ensures, ← same) (front_by_count (c.args.size / 24) c.args.size entries (omega arith) (omega arith))
+    rw (c.min.ensures, ← same)
+    (front_by_count (c.args.size / 24) c.args.size entries (omega arith) (omega arith))

@@ -1,5 +1,5 @@
 use Rattle.std.proofs.Common.{◌+◌, ◌≤◌, ◌∙◌, ◌++◌, ap, sym, append-nil, append_assoc, arith}
-use Rattle.fan_listener.specs.Records.{records, pendings, next_fd_after}
+use Rattle.fan_listener.specs.Records.{records, next_fd_after}
 use Rattle.fan_listener.proofs.Bounds.{fd_after-le}
 use Rattle.fan_listener.proofs.RecordLemmas.{front_end, front_step}
 use Rattle.fan_listener.proofs.records.take_entries.Goals as goal
@@ -9,15 +9,15 @@ loop-index-preserved c =
     let entry = c.in-Some.entry.now in
     let old = c.loop-index.taken in
     let done = c.in_ok-take_entry.ensures in
-    let step = front_step c.args.count c.loop-index.index c.args.queue.now.entries entry c.loop-index-test.true
+    let step =
+    front_step c.args.count c.loop-index.index c.args.queue.now.entries entry c.loop-index-test.true
     (sym c.in-Some.ensures) in
     let few : c.take_entry.new.taken.next_fd ≤ c.args.first_fd + (c.loop-index.index + 1) =
     omega (arith, done.next, fd_after-le old.next_fd entry.body, c.loop-index.invariant.few) in
     record {
       bytes = rw (done.bytes, done.next, append_assoc)
-          (ap (λ left. old.bytes.items ++ records old.next_fd left) (sym step) ∙ c.loop-index.invariant.bytes);
-      pending = rw (done.pending, done.next, append_assoc)
-          (ap (λ left. old.pending.items ++ pendings old.next_fd left) (sym step) ∙ c.loop-index.invariant.pending);
+          (ap (λ left. old.bytes.items ++ records old.next_fd left) (sym step)
+          ∙ c.loop-index.invariant.bytes);
       next = rw done.next
           (ap (λ left. next_fd_after old.next_fd left) (sym step) ∙ c.loop-index.invariant.next);
       few = few;
@@ -29,13 +29,6 @@ returns-clause-bytes c =
     sym (append-nil c.loop-index.taken.bytes.items)
     ∙ ap (λ left. c.loop-index.taken.bytes.items ++ records c.loop-index.taken.next_fd left) (sym end)
     ∙ c.loop-index.invariant.bytes
-
-pub returns-clause-pending : goal.returns-clause-pending
-returns-clause-pending c =
-    let end = front_end c.loop-index.index c.args.count c.args.queue.now.entries c.loop-index-test.false in
-    sym (append-nil c.loop-index.taken.pending.items)
-    ∙ ap (λ left. c.loop-index.taken.pending.items ++ pendings c.loop-index.taken.next_fd left) (sym end)
-    ∙ c.loop-index.invariant.pending
 
 pub returns-clause-next : goal.returns-clause-next
 returns-clause-next c =

@@ -1,5 +1,5 @@
 use Rattle.std.proofs.Common.{◌≡◌, ◌+◌, ◌≤◌, ◌++◌, drop, take}
-use Rattle.fan_listener.specs.Records.{records, pendings, next_fd_after}
+use Rattle.fan_listener.specs.Records.{records, next_fd_after}
 use Rattle.fan_listener.proofs.records.take_entries.Given as goal
 
 -- what was taken so far, and what the rest gives from here on, are what all entries give
@@ -7,8 +7,6 @@ abbrev pub invariant-loop-index : goal.invariant-loop-index
 invariant-loop-index l = record {
   bytes : l.taken.bytes.items ++ records l.taken.next_fd (drop l.index (take l.count l.queue.entries))
       ≡ records l.first_fd (take l.count l.queue.entries);
-  pending : l.taken.pending.items ++ pendings l.taken.next_fd (drop l.index (take l.count l.queue.entries))
-      ≡ pendings l.first_fd (take l.count l.queue.entries);
   next : next_fd_after l.taken.next_fd (drop l.index (take l.count l.queue.entries))
       ≡ next_fd_after l.first_fd (take l.count l.queue.entries);
   few : l.taken.next_fd ≤ l.first_fd + l.index;
