@@ -28,19 +28,17 @@ record Given (first : ℕ) (entries : List Entry) (fd : ℕ) : Type 0 where
   pub later : next_fd_after first entries ≤ fd → count_by (is_under fd) (pendings first entries) ≡ 0
 
 -- one event more is counted if it is under the descriptor
-one_more : (perm : Bool) (first number fd : ℕ) (more : List Pending)
-    → count_by (is_under fd)
-    (cond {A = List Pending} perm ((record { fd = first; entry = number }) ∷ []) [] ++ more)
-    ≤ cond (first == fd) 1 0 + count_by (is_under fd) more
-one_more true first number fd more =
-    let one : Pending = record { fd = first; entry = number } in
-    omega (arith, count_by-cons (is_under fd) one more)
-one_more false first number fd more = omega arith
+one_more : (perm : Bool) (one : Pending) (fd : ℕ) (more : List Pending)
+    → count_by (is_under fd) (cond {A = List Pending} perm (one ∷ []) [] ++ more)
+    ≤ cond (one.fd == fd) 1 0 + count_by (is_under fd) more
+one_more true one fd more = omega (arith, count_by-cons (is_under fd) one more)
+one_more false one fd more = omega arith
 
 given-by : (first number : ℕ) (body : Body) (rest : List Entry) (fd : ℕ)
     → Given (fd_after first body) rest fd → Given first ((record { number = number; body = body }) ∷ rest) fd
 given-by first number (bodies.Told event) rest fd more =
-    let count = one_more event.perm first number fd (pendings (first + 1) rest) in record {
+    let one : Pending = record { fd = first; entry = number; event = event } in
+    let count = one_more event.perm one fd (pendings (first + 1) rest) in record {
       rises = omega (arith, more.rises);
       once = grind (arith, nat_tests, count, more.once, more.before);
       before = λ below. grind (arith, nat_tests, count, more.before);
@@ -202,9 +200,10 @@ one_waits : (number first at : ℕ) (body : Body)
 one_waits number first at (bodies.Told event) = by event.perm
   where
     by : (perm : Bool) → count_by (waits number)
-        (cond {A = List Pending} perm ((record { fd = first; entry = at }) ∷ []) []) ≤ cond (at == number) 1 0
+        (cond {A = List Pending} perm ((record { fd = first; entry = at; event = event }) ∷ []) [])
+        ≤ cond (at == number) 1 0
     by true =
-        let one : Pending = record { fd = first; entry = at } in
+        let one : Pending = record { fd = first; entry = at; event = event } in
         omega (arith, count_by-cons (waits number) one [])
     by false = omega arith
 one_waits number first at bodies.Lost = omega arith

@@ -15,7 +15,6 @@ use Rattle.fan_lists.proofs.Counts.{count_by-cons}
 use Rattle.fan_lists.proofs.Pairs.{AllPairs-append, AllPairs-nil, AllPairs-tail}
 use Rattle.fan_lists.proofs.Places.{All-slice_get}
 use Rattle.fan_listener.specs.declared.answers.Answered.{Answered}
-use Rattle.fan_listener.specs.declared.answers.Kept.{Kept as KeptVerdict}
 use Rattle.fan_listener.specs.declared.answers.Verdict.{Verdict}
 use Rattle.fan_event.specs.declared.event.Event.{Event}
 use Rattle.fan_queue.specs.declared.entry.Body.{Body}
@@ -125,7 +124,7 @@ pub record Kept (P : ListenerState → Type 0) (old : ListenerState) : Type 0 wh
   })
   pub shorter : (front : List Entry) → P (read_front old front)
   pub answered_one : (fd entry : ℕ) (verdict : Verdict) → P (answered old fd entry verdict)
-  pub taken : (kept : List KeptVerdict) → P (record old { answers = kept })
+  pub taken : (kept : List (ℕ × Verdict)) → P (record old { answers = kept })
 
 module _ (P : ListenerState → Type 0) (old : ListenerState) (kept : Kept P old) where
   read_by : (a b c : Bool) (size : ℕ) (given : List ℕ × ListenerState)

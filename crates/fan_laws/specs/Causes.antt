@@ -1,5 +1,5 @@
 -- Why a single step of an access has the outcome that it has.
-use Rattle.std.specs.Prelude.{◌≡◌, ◌⊎◌, ℕ, Bool, true, false, List, Option, Some, None, find, is_some, option_map, slice_get}
+use Rattle.std.specs.Prelude.{◌≡◌, ◌⊎◌, ℕ, Bool, true, false, List, Option, Some, None, is_some, slice_get}
 use Rattle.fan_access.specs.Access.{AccessState, Asking, Telling, Waiting, asks, event_of, tells}
 use Rattle.fan_access.specs.declared.turn.Turn.{Turn}
 use Rattle.fan_bits.specs.declared.outcome.StepOutcome.{StepOutcome}
@@ -10,12 +10,12 @@ use Rattle.fan_queue.specs.declared.entry.Put.{Put}
 use Rattle.fan_queue.specs.declared.entry.Put.TheVariants as puts
 use Rattle.fan_listener.specs.Groups.{listener_at, open_listener, put_to}
 use Rattle.fan_listener.specs.ListenerState.{ListenerState}
-use Rattle.fan_listener.specs.Responses.{is_to, verdict_in}
+use Rattle.fan_listener.specs.Responses.{verdict_on}
 
 -- the verdict on an entry that a listener keeps, if it keeps one: no access has taken it yet
 abbrev pub kept_verdict : Option ListenerState → ℕ → Option Verdict
 kept_verdict None entry = None
-kept_verdict (Some listener) entry = option_map verdict_in (find (is_to entry) listener.answers)
+kept_verdict (Some listener) entry = verdict_on entry listener.answers
 
 -- the access waits for the group to answer an entry, on which this verdict is kept, if any is
 pub record WaitsFor (groups : List ListenerState) (access : AccessState) (group : ℕ)
