@@ -87,7 +87,8 @@ impl Groups {
     #[tactic(auto, unfolding(fan_listener::specs::Groups::read_from))]
     pub fn read(&mut self, group: u32, size: u32) -> Result<Vec<u8>, ReadRefused>
         requires { AreBounded (2 ^ 30 - 1) self.old }
-        ensures ok { IfOk result (λ bytes. read_from self.old group size ≡ Ok (bytes.items, self.new)) }
+        ensures ok { IfOk result (λ bytes.
+            read_from self.old group size ≡ Ok (bytes.items, self.new)) }
         ensures refused { IfErr result (λ why.
             IfSome (read_errno why) (λ errno. read_from self.old group size ≡ Err errno)) }
         ensures memory { result ≡ Err ReadRefused.NoMemory → IsOk (read_from self.old group size) }
@@ -103,7 +104,8 @@ impl Groups {
     /// Takes a response of a group's listener: EBADF, EINVAL, ENOENT. Allocates nothing.
     #[tactic(auto, unfolding(fan_listener::specs::Groups::written_to))]
     pub fn write(&mut self, group: u32, bytes: &[u8]) -> Result<Answered, Errno>
-        ensures ok { IfOk result (λ answered. written_to self.old group bytes.now ≡ Ok (answered, self.new)) }
+        ensures ok { IfOk result (λ answered.
+            written_to self.old group bytes.now ≡ Ok (answered, self.new)) }
         ensures refused { IfErr result (λ errno. written_to self.old group bytes.now ≡ Err errno) }
         ensures bounds { (calls : ℕ) → AreBounded calls self.old → AreBounded (calls + 1) self.new }
         ensures err { OnErr result (self.new ≡ self.old) }

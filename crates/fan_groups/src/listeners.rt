@@ -55,13 +55,15 @@ pub(crate) fn read_at(
 ) -> Result<Vec<u8>, ReadRefused>
     requires within { index < length listeners.old.items }
     requires bounded { AreBounded (2 ^ 30 - 1) listeners.old.items }
-    ensures ok { IfOk result (λ bytes. tried_at (λ listener. read_of listener size) listeners.old.items
+    ensures ok { IfOk result (λ bytes.
+        tried_at (λ listener. read_of listener size) listeners.old.items
         (index + 1) (slice_get listeners.old.items index) ≡ Ok (bytes.items, listeners.new.items)) }
     ensures refused { IfErr result (λ why. IfSome (read_errno why) (λ errno.
         tried_at (λ listener. read_of listener size) listeners.old.items
         (index + 1) (slice_get listeners.old.items index) ≡ Err errno)) }
-    ensures memory { result ≡ Err ReadRefused.NoMemory → IsOk (tried_at (λ listener.
-        read_of listener size) listeners.old.items (index + 1) (slice_get listeners.old.items index)) }
+    ensures memory { result ≡ Err ReadRefused.NoMemory → IsOk
+        (tried_at (λ listener. read_of listener size) listeners.old.items
+        (index + 1) (slice_get listeners.old.items index)) }
     ensures err { OnErr result (listeners.new.items ≡ listeners.old.items) }
     ensures count { count_by is_open listeners.new.items ≡ count_by is_open listeners.old.items }
     ensures bounds { (calls : ℕ) → AreBounded calls listeners.old.items
@@ -142,7 +144,8 @@ pub(crate) fn tell_at(
 pub(crate) fn answer_at(listeners: &mut Vec<Listener>, index: usize, entry: u64) -> Answer
     requires { index < length listeners.old.items }
     ensures answer { (result, listeners.new.items) ≡ called_at Answer.Closed
-        (λ listener. answer_of listener entry) listeners.old.items (index + 1) (slice_get listeners.old.items index) }
+        (λ listener. answer_of listener entry) listeners.old.items
+        (index + 1) (slice_get listeners.old.items index) }
     ensures count { count_by is_open listeners.new.items ≡ count_by is_open listeners.old.items }
 {
     let listener = &mut listeners[index];
@@ -156,7 +159,8 @@ pub(crate) fn close_at(listeners: &mut Vec<Listener>, index: usize)
         (λ listener. listener.closed ≡ false) }
     ensures closed { IfSome (slice_get listeners.old.items index) (λ listener.
         listeners.new.items ≡ slice_set listeners.old.items index (closed_of listener)) }
-    ensures count { count_by is_open listeners.new.items + 1 ≡ count_by is_open listeners.old.items }
+    ensures count { count_by is_open listeners.new.items + 1
+        ≡ count_by is_open listeners.old.items }
     ensures bounds { (calls : ℕ) → AreBounded calls listeners.old.items
         → AreBounded (calls + 1) listeners.new.items }
 {

@@ -75,7 +75,8 @@ impl NearMarks {
         groups: &mut Groups,
     ) -> Result<StepOutcome, NoMemory>
         requires { All (λ listener. listener.next_entry ≤ 2 ^ 31) groups.old }
-        ensures ok { IfOk result (λ outcome. (state : AccessState) → IsAccess self.old access.old state
+        ensures ok { IfOk result (λ outcome. (state : AccessState)
+            → IsAccess self.old access.old state
             → IsStepped self.old outcome groups.new access.new (access_step groups.old state)) }
         ensures calls { IsCalledOnce groups.old groups.new }
         ensures same { self.new ≡ self.old }
