@@ -1,0 +1,4 @@
+pub mod Fields
+pub mod Infos
+pub mod Records
+pub mod Written
