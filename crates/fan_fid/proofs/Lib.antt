@@ -1,0 +1,4 @@
+pub mod WrittenLemmas
+pub mod NameLemmas
+pub mod InfoLemmas
+pub mod AgainLemmas

@@ -1,0 +1,3 @@
+pub mod Infos
+pub mod Written
+pub mod Again
