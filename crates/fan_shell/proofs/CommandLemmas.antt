@@ -1,18 +1,21 @@
 -- The words of a command.
-use Rattle.std.proofs.Common.{◌≡◌, ℕ, List, [], ◌∷◌, Bool, map, length, get_or, sym, ap, ◌∙◌, arith}
-use Rattle.std.specs.Prelude.{IsTrue}
-use Rattle.std.specs.Str.{bytes_eq}
-use Rattle.std.proofs.lemmas.Slice.Eq.{bytes_eq-Decides}
+use Rattle.std.proofs.Common.{◌≡◌, List, [], ◌∷◌, refl, sym, ◌∙◌}
+use Rattle.std.specs.Prelude.{String}
+use Rattle.fan_shell.specs.Command.{Names, name}
+use Rattle.fan_shell.specs.declared.command.Command.{Command}
+use Rattle.fan_shell.specs.declared.command.Command.TheVariants as commands
 
--- a lone word is compared by its bytes
-pub one_word : {A : Type 0} (f : A → List ℕ) (words : List A) (word : A) (text : List ℕ) (same : Bool)
-    → length words ≡ 1 → word ≡ get_or words 0 word → same ≡ bytes_eq (f word) text
-    → (IsTrue same → map f words ≡ text ∷ []) × (map f words ≡ text ∷ [] → IsTrue same)
-one_word f [] word text same one is eq = absurd (omega arith)
-one_word f (first ∷ []) word text same one is eq =
-    let compares = bytes_eq-Decides (f first) text in
-    let by_first : same ≡ bytes_eq (f first) text = eq ∙ ap (λ w. bytes_eq (f w) text) is in (
-      λ yes. let equal : f first ≡ text = compares.0 (sym by_first ∙ yes) in ap (λ t. t ∷ []) equal,
-      λ listed. let equal : f first ≡ text = cc in by_first ∙ compares.1 equal,
-    )
-one_word f (first ∷ second ∷ more) word text same one is eq = absurd (omega arith)
+-- no two commands have one name
+same_name : (a b : Command) → name a ≡ name b → a ≡ b
+unfolding name
+same_name commands.Script commands.Script same = refl
+same_name commands.Script commands.Dump same = absurd cc
+same_name commands.Dump commands.Script same = absurd cc
+same_name commands.Dump commands.Dump same = refl
+
+-- words name one command at most
+pub one_command : {Z : Type 0} (words : List (String Z)) (a b : Command) → Names words a → Names words b → a ≡ b
+one_command words a b x y =
+    let same : name a ∷ [] ≡ name b ∷ [] = sym x ∙ y in
+    let names : name a ≡ name b = cc in
+    same_name a b names

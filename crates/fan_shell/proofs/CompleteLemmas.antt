@@ -1,17 +1,18 @@
--- A script of good lines is answered to its end.
+-- An input is answered to its end; and a script of good lines has status 0.
 use Rattle.std.proofs.Common.{◌≡◌, ℕ, ◌+◌, ◌≤◌, List, [], ◌∷◌, ◌++◌, Option, Some, None, length, refl, sym, ap, ◌∙◌, inl, inr, arith, length-append}
 use Rattle.std.specs.Prelude.{IfSome}
-use Rattle.std.specs.Io.KnownBytes.{Appends}
 use Rattle.fan_io.specs.Bytes.{GaveMore}
 use Rattle.fan_machine.specs.World.{WorldState, initial_world}
 use Rattle.fan_script.specs.declared.line.Line.{Line}
+use Rattle.fan_shell.specs.declared.command.Command.{Command}
+use Rattle.fan_shell.specs.declared.command.Command.TheVariants as commands
 use Rattle.fan_shell.specs.declared.status.Status.{Status}
 use Rattle.fan_shell.specs.declared.status.Status.TheVariants as statuses
-use Rattle.fan_shell.specs.Outcome.{Completes}
+use Rattle.fan_shell.specs.Outcome.{Completes, Tells}
 use Rattle.fan_shell.specs.Playing.{play}
 use Rattle.fan_shell.specs.Script.{Printed, AllTaken, AreLines, IsValid, printed, answered, lines_of}
 use Rattle.fan_shell.specs.Status.{IsTold, IsToldOrCut}
-use Rattle.fan_shell.proofs.TranscriptLemmas.{transcript_of, tells_played}
+use Rattle.fan_shell.proofs.TranscriptLemmas.{transcript_of}
 
 -- good lines end with status 0
 all_good : (pieces : List (List ℕ)) (lines : List (Option Line)) (world : WorldState) (number : ℕ)
@@ -39,14 +40,13 @@ within_limit (Some bytes) (Some left) limit gave = λ most.
     let whole : bytes ≡ gave.given ++ left = gave.consumed in
     omega (arith, gave.more, ap length whole, length-append gave.given left)
 
--- a script of good lines is answered whole where the sink doesn't fail, or memory runs out
-pub completes : (status : Status) (old new : Option (List ℕ)) (script : List ℕ) → IsToldOrCut status
-    → (status ≡ statuses.WriteFault → ⊥) → (IsTold status → Appends old new (play script).text)
-    → (IsTold status → (play script).status ≡ status) → IsValid script → Completes old new script status
-completes statuses.Ok old new script ends no_fault put is valid =
-    inl (refl, tells_played old new script statuses.Ok (put tt) (is tt))
-completes statuses.BadLine old new script ends no_fault put is valid =
-    let bad = is tt in let good = plays_well script valid in absurd cc
-completes statuses.WriteFault old new script ends no_fault put is valid = absurd (no_fault refl)
-completes statuses.NoMemory old new script ends no_fault put is valid = inr refl
-completes _ old new script ends no_fault put is valid = absurd ends
+-- where the sink doesn't fail, the answer of a command is put whole, or memory runs out
+pub completes : (command : Command) (status : Status) (old new : Option (List ℕ)) (bytes : List ℕ)
+    → IsToldOrCut command status → (status ≡ statuses.WriteFault → ⊥)
+    → (IsTold status → Tells command old new bytes status) → Completes command old new bytes status
+completes command statuses.Ok old new bytes ends no_fault told = inl (told tt)
+completes command statuses.WriteFault old new bytes ends no_fault told = absurd (no_fault refl)
+completes command statuses.NoMemory old new bytes ends no_fault told = inr refl
+completes commands.Script statuses.BadLine old new bytes ends no_fault told = inl (told tt)
+completes commands.Dump statuses.BadRecord old new bytes ends no_fault told = inl (told tt)
+completes _ _ old new bytes ends no_fault told = absurd ends

@@ -1,5 +1,6 @@
 pub mod CommandLemmas
 pub mod CompleteLemmas
+pub mod OutcomeLemmas
 pub mod PlayLemmas
 pub mod RunLemmas
 pub mod SplitLemmas

@@ -7,7 +7,7 @@ use Rattle.fan_machine.specs.Run.{Ran, is_last, ran}
 use Rattle.fan_machine.specs.World.{WorldState}
 use Rattle.fan_script.specs.declared.step.Step.TheVariants as steps
 use Rattle.fan_shell.specs.Answers.{IsAnswered, IsSingleStep}
-use Rattle.fan_shell.specs.Texts.{reply_text, more_text, answers_text}
+use Rattle.fan_print.specs.Texts.{reply_text, more_text, answers_text}
 use Rattle.fan_world.specs.Machine.{IsMachine, Parts}
 
 -- the outcome of the first single step of a run

@@ -12,7 +12,7 @@ use Rattle.fan_script.specs.declared.step.Step.{Step}
 use Rattle.fan_script.specs.declared.step.Step.TheVariants as steps
 use Rattle.fan_shell.specs.Script.{answered, behind, printed}
 use Rattle.fan_shell.specs.Steps.{steps_of, all_steps, replies_to, all_texts}
-use Rattle.fan_shell.specs.Texts.{answers_text}
+use Rattle.fan_print.specs.Texts.{answers_text}
 
 -- single steps of an access, one for each of some answers
 abbrev singles : ℕ → List Reply → List Step

@@ -4,6 +4,7 @@ use Rattle.std.specs.Io.KnownBytes.{Appends}
 use Rattle.fan_io.specs.Bytes.{AppendsFront}
 use Rattle.fan_machine.specs.World.{WorldState, initial_world}
 use Rattle.fan_script.specs.declared.line.Line.{Line}
+use Rattle.fan_shell.specs.declared.command.Command.TheVariants as commands
 use Rattle.fan_shell.specs.declared.status.Status.{Status}
 use Rattle.fan_shell.specs.Outcome.{Tells, TellsFront}
 use Rattle.fan_shell.specs.Playing.{taken_at, turn, played, play}
@@ -58,14 +59,15 @@ unfolding play
 transcript_is bytes text status transcript =
     sym (printed_is (lines_of bytes) transcript.lines initial_world 1 transcript.taken) ∙ transcript.said
 
--- what playing a script prints, put whole, is its transcript
+-- what playing a script prints, put whole, is its answer
 pub tells_played : (old new : Option (List ℕ)) (script : List ℕ) (status : Status)
-    → Appends old new (play script).text → (play script).status ≡ status → Tells old new script status
+    → Appends old new (play script).text → (play script).status ≡ status
+    → Tells commands.Script old new script status
 tells_played old new script status put is =
-    record { text = (play script).text; transcript = rw is at (transcript_of script); put = put }
+    record { text = (play script).text; outcome = rw is at (transcript_of script); put = put }
 
--- a front of what playing a script prints is a front of its transcript
+-- a front of what playing a script prints is a front of its answer
 pub tells_front : (old new : Option (List ℕ)) (script : List ℕ) → AppendsFront old new (play script).text
-    → TellsFront old new script
+    → TellsFront commands.Script old new script
 tells_front old new script front = λ text status transcript.
     rw (ap (λ (r : Printed). r.text) (transcript_is script text status transcript)) at front

@@ -4,7 +4,7 @@ use Rattle.fan_machine.specs.Outcome.{Outcome}
 use Rattle.fan_machine.specs.Run.{is_last}
 use Rattle.fan_machine.specs.World.{WorldState}
 use Rattle.fan_shell.specs.Playing.{Turn}
-use Rattle.fan_shell.specs.Texts.{reply_text}
+use Rattle.fan_print.specs.Texts.{reply_text}
 use Rattle.fan_world.specs.Machine.{IsMachine, Parts}
 
 -- this text was put at the end, and the parts stand for this world

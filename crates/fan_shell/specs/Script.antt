@@ -11,7 +11,7 @@ use Rattle.fan_machine.specs.Run.{ran, max_answers}
 use Rattle.fan_machine.specs.World.{WorldState, initial_world}
 use Rattle.fan_shell.specs.declared.status.Status.{Status}
 use Rattle.fan_shell.specs.declared.status.Status.TheVariants as statuses
-use Rattle.fan_shell.specs.Texts.{reply_text, answers_text}
+use Rattle.fan_print.specs.Texts.{reply_text, answers_text}
 
 -- the pieces between LFs, but for an empty one behind the last
 abbrev pub without_empty_last : List (List ℕ) → List (List ℕ)

@@ -1,5 +1,7 @@
--- The exit status of the program for each outcome of a command.
+-- The exit status of the program for each outcome of a command, and which of them may come.
 use Rattle.std.specs.Prelude.{ℕ}
+use Rattle.fan_shell.specs.declared.command.Command.{Command}
+use Rattle.fan_shell.specs.declared.command.Command.TheVariants as commands
 use Rattle.fan_shell.specs.declared.status.Status.{Status}
 use Rattle.fan_shell.specs.declared.status.Status.TheVariants as statuses
 
@@ -16,14 +18,30 @@ code_of statuses.NotLegal = 7
 code_of statuses.NoThread = 8
 code_of statuses.BadRecord = 9
 
--- a script was answered to its end or to its first bad line
+-- an input was answered to its end, to its first bad line or to its first bad record
 abbrev pub IsTold : Status → Type 0
 IsTold statuses.Ok = Unit {0}
 IsTold statuses.BadLine = Unit {0}
+IsTold statuses.BadRecord = Unit {0}
 IsTold _ = ⊥
 
--- a script was answered so, or its text was cut off by a fault of the sink or by want of memory
-abbrev pub IsToldOrCut : Status → Type 0
-IsToldOrCut statuses.WriteFault = Unit {0}
-IsToldOrCut statuses.NoMemory = Unit {0}
-IsToldOrCut status = IsTold status
+-- a command's input was answered so, or its text was cut off by a fault of the sink or by want of memory
+abbrev pub IsToldOrCut : Command → Status → Type 0
+IsToldOrCut command statuses.Ok = Unit {0}
+IsToldOrCut command statuses.WriteFault = Unit {0}
+IsToldOrCut command statuses.NoMemory = Unit {0}
+IsToldOrCut commands.Script statuses.BadLine = Unit {0}
+IsToldOrCut commands.Dump statuses.BadRecord = Unit {0}
+IsToldOrCut _ _ = ⊥
+
+-- what a command may end with: the source failed or gave too much, or a text was written or cut off
+abbrev pub Ends : Command → Status → Type 0
+Ends command statuses.ReadFault = Unit {0}
+Ends command statuses.TooLong = Unit {0}
+Ends command status = IsToldOrCut command status
+
+-- what words that name no command may end with: the usage line was written or cut off
+abbrev pub EndsUsage : Status → Type 0
+EndsUsage statuses.Usage = Unit {0}
+EndsUsage statuses.WriteFault = Unit {0}
+EndsUsage _ = ⊥

@@ -9,7 +9,7 @@ use Rattle.fan_script.specs.declared.reply.Reply.{Reply}
 use Rattle.fan_script.specs.declared.step.Step.{Step}
 use Rattle.fan_script.specs.declared.step.Step.TheVariants as steps
 use Rattle.fan_shell.specs.Script.{Printed, behind, printed}
-use Rattle.fan_shell.specs.Texts.{answers_text}
+use Rattle.fan_print.specs.Texts.{answers_text}
 
 -- the steps of a line: its own, or a single step of the access for each answer of its run
 abbrev pub steps_of : WorldState → Line → List Step

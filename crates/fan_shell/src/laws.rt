@@ -1,11 +1,14 @@
 // Laws about scripts, each the contract of a function that does nothing.
 ghost use Rattle.std.specs.Prelude.{◌≡◌, ◌++◌, ℕ, List, Option, Some, map};
 ghost use Rattle.fan_script.specs.declared.line.Line.{Line};
-ghost use Rattle.fan_shell.specs.declared.status.Status.{Status};
-ghost use Rattle.fan_shell.specs.Script.{Transcript};
+ghost use Rattle.fan_shell.specs.Outcome.{Outcome};
+ghost use Rattle.fan_shell.specs.Script.{IsValid, Transcript};
 ghost use Rattle.fan_shell.specs.Steps.{printed_by_steps};
 
-/// Each list of bytes has exactly one transcript and one status.
+use crate::command::Command;
+use crate::status::Status;
+
+/// Each list of bytes has exactly one transcript and one status, which is 0 where no line is a bad one.
 pub fn exactly_one_transcript()
     ensures some { (bytes : List ℕ) → (text : List ℕ) × (status : Status)
         × Transcript bytes text status }
@@ -13,6 +16,16 @@ pub fn exactly_one_transcript()
         → Transcript bytes a p → Transcript bytes b q → a ≡ b }
     ensures one_status { (bytes a b : List ℕ) (p q : Status)
         → Transcript bytes a p → Transcript bytes b q → p ≡ q }
+    ensures valid { (bytes text : List ℕ) (status : Status) → Transcript bytes text status
+        → IsValid bytes → status ≡ Status.Ok }
+{}
+
+/// A command answers its input by one text and one status at most.
+pub fn one_outcome_at_most()
+    ensures text { (command : Command) (bytes a b : List ℕ) (p q : Status)
+        → Outcome command bytes a p → Outcome command bytes b q → a ≡ b }
+    ensures status { (command : Command) (bytes a b : List ℕ) (p q : Status)
+        → Outcome command bytes a p → Outcome command bytes b q → p ≡ q }
 {}
 
 /// A transcript follows the steps of its lines: what it has for some good lines, from the first on,

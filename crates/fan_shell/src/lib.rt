@@ -1,14 +1,16 @@
-//! The commands of fanwatch: scripts, their transcripts and the status that each ends with.
+//! The commands of fanwatch: what each answers to its input, and the status that it ends with.
 #![tactic(auto)]
 
+mod command;
+mod dump;
 mod laws;
 mod plain;
 mod run;
 mod script;
 mod status;
-mod texts;
 
-pub use laws::{exactly_one_transcript, transcripts_follow_the_steps};
+pub use command::Command;
+pub use laws::{exactly_one_transcript, one_outcome_at_most, transcripts_follow_the_steps};
 pub use plain::run_plain;
 pub use status::Status;
 

@@ -5,11 +5,11 @@ ghost use Rattle.fan_machine.specs.Run.{is_last, max_answers, ran};
 ghost use Rattle.fan_machine.specs.World.{WorldState};
 ghost use Rattle.fan_script.specs.declared.step.Step.TheVariants as steps;
 ghost use Rattle.fan_shell.specs.Answers.{IsAnswered, IsSingleStep};
-ghost use Rattle.fan_shell.specs.Texts.{answers_text, more_text};
+ghost use Rattle.fan_print.specs.Texts.{answers_text, more_text};
 ghost use Rattle.fan_world.specs.Machine.{IsMachine};
 
-use crate::texts::{push_reply, push_text};
 use fan_io::NoMemory;
+use fan_print::{print_reply, print_text};
 use fan_script::{Reply, Step};
 use fan_world::World;
 
@@ -38,7 +38,7 @@ fn push_answer(world: &mut World, access: u32, out: &mut Vec<u8>) -> Result<bool
     ensures steps { world.new.steps ≤ world.old.steps + 1 }
 {
     let reply = world.step(&Step::Advance { access })?;
-    push_reply(out, &reply)?;
+    print_reply(out, &reply)?;
     Ok(is_last(&reply))
 }
 
@@ -53,7 +53,7 @@ fn push_more(world: &mut World, access: u32, left: u32, out: &mut Vec<u8>) -> Re
     if left == 0 {
         return Ok(());
     }
-    push_text(out, ", ")?;
+    print_text(out, ", ")?;
     let ends = push_answer(world, access, out)?;
     if ends {
         return Ok(());

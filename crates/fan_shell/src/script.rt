@@ -10,10 +10,11 @@ ghost use Rattle.fan_shell.specs.Status.{IsTold, IsToldOrCut};
 ghost use Rattle.fan_shell.specs.Script.{answered, bad_line_text, lines_of};
 ghost use Rattle.fan_world.specs.Machine.{IsMachine};
 
+use crate::command::Command;
 use crate::run::push_run;
 use crate::status::Status;
-use crate::texts::{push_number, push_reply, push_text};
 use fan_io::{Failed, NoMemory, Sink, put_all};
+use fan_print::{print_decimal, print_reply, print_text};
 use fan_script::{Line, LineRefused, built, read_line};
 use fan_world::World;
 use std::alloc::Global;
@@ -57,11 +58,11 @@ fn push_answered(world: &mut World, line: &Line, out: &mut Vec<u8>) -> Result<()
     match line {
         Line::One(step) => {
             let reply = world.step(step)?;
-            push_reply(out, &reply)?;
+            print_reply(out, &reply)?;
         }
         Line::Run(access) => push_run(world, *access, out)?,
     }
-    push_text(out, "\n")
+    print_text(out, "\n")
 }
 
 // Puts the text that names a bad line at the end.
@@ -69,9 +70,9 @@ fn push_answered(world: &mut World, line: &Line, out: &mut Vec<u8>) -> Result<()
 fn push_bad_line(out: &mut Vec<u8>, number: u32) -> Result<(), NoMemory>
     ensures { OnOk result (out.new.items ≡ out.old.items ++ bad_line_text number) }
 {
-    push_text(out, "bad line ")?;
-    push_number(out, number.into())?;
-    push_text(out, "\n")
+    print_text(out, "bad line ")?;
+    print_decimal(out, number.into())?;
+    print_text(out, "\n")
 }
 
 // Answers one line: puts its text at the end, and says whether the line was good.
@@ -133,7 +134,7 @@ pub(crate) fn write_transcript<K: Sink>(alloc: Global, script: &[u8], sink: &mut
     ensures status { IsTold result → (play script.now).status ≡ result }
     ensures front { AppendsFront (K.held sink.old) (K.held sink.new) (play script.now).text }
     ensures fault { result ≡ Status.WriteFault → Rose (K.faults sink.old) (K.faults sink.new) }
-    ensures others { IsToldOrCut result }
+    ensures others { IsToldOrCut Command.Script result }
     ensures kept { K.faults sink.old ≤ K.faults sink.new }
 {
     match World::new(alloc) {
@@ -152,7 +153,7 @@ fn write_lines<K: Sink>(alloc: Global, world: &mut World, script: &[u8], sink: &
     ensures status { IsTold result → (play script.now).status ≡ result }
     ensures front { AppendsFront (K.held sink.old) (K.held sink.new) (play script.now).text }
     ensures fault { result ≡ Status.WriteFault → Rose (K.faults sink.old) (K.faults sink.new) }
-    ensures others { IsToldOrCut result }
+    ensures others { IsToldOrCut Command.Script result }
     ensures kept { K.faults sink.old ≤ K.faults sink.new }
 {
     let mut number = 1;

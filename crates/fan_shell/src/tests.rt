@@ -17,6 +17,9 @@ const FIRST: &[u8] =
 const FIRST_TEXT: &[u8] =
     b"inode 4\ngroup 1\nok\nok\ntold 1 queued, done\nbytes 180000000300180020000000000000000000000029000000\n";
 
+// FAN_CLOSE_WRITE of process 100 under descriptor 40.
+const RECORD: &[u8] = b"\x18\0\0\0\x03\0\x18\0\x08\0\0\0\0\0\0\0\x28\0\0\0\x64\0\0\0";
+
 const USAGE: &[u8] =
     b"usage: fanwatch script | dump | check | bulk SEED COUNT | race SEED WORKERS COUNT\n";
 
@@ -60,7 +63,7 @@ fn assert_plays(rt: &(impl Abort + AllocGlobal), lines: &str) -> Result<(), Fail
 
 #[test]
 fn commands_end_with_their_status_and_text(rt: HostRuntime) -> Result<(), Fail> {
-    let table: [(&[&str], &[u8], Status, &[u8]); 7] = [
+    let table: [(&[&str], &[u8], Status, &[u8]); 10] = [
         (&["script"], FIRST, Status::Ok, FIRST_TEXT),
         (&["script"], b"", Status::Ok, b""),
         (
@@ -70,6 +73,9 @@ fn commands_end_with_their_status_and_text(rt: HostRuntime) -> Result<(), Fail> 
             b"inode 4\nbad line 2\n",
         ),
         (&["script"], b"mkfile /a", Status::Ok, b"inode 4\n"),
+        (&["dump"], b"", Status::Ok, b""),
+        (&["dump"], RECORD, Status::Ok, b"event 8 fd 40 pid 100\n"),
+        (&["dump"], FIRST, Status::BadRecord, b"bad record at 0\n"),
         (&[], FIRST, Status::Usage, USAGE),
         (&["scripts"], FIRST, Status::Usage, USAGE),
         (&["script", "script"], FIRST, Status::Usage, USAGE),

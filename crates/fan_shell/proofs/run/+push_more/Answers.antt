@@ -9,7 +9,7 @@ returns-then-left-eq0-clause-ok t c = λ state machine.
 
 pub returns-then-ends-clause-ok : goal.returns-then-ends-clause-ok
 returns-then-ends-clause-ok t c = λ state machine.
-    more_ends c.args.left state c.args.access (omega arith) c.if-ends.true c.in_ok-push_text.ensures
+    more_ends c.args.left state c.args.access (omega arith) c.if-ends.true c.in_ok-print_text.ensures.ok
     (c.in_ok-ends.ensures.ok state machine)
 
 pub returns-clause-ok : goal.returns-clause-ok
@@ -17,5 +17,5 @@ returns-clause-ok t c = on_ok_weaker c.push_more.result
     (λ later state machine.
     let single = c.in_ok-ends.ensures.ok state machine in
     more_goes_on c.args.left state c.args.access (omega arith) c.if-ends.false
-    c.in_ok-push_text.ensures single (later (first_of state c.args.access).world single.machine))
+    c.in_ok-print_text.ensures.ok single (later (first_of state c.args.access).world single.machine))
     c.push_more.ensures.ok
