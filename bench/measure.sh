@@ -1,4 +1,4 @@
-# Measures one run of `fanwatch script`; the scripts beside this one source it. It sets `top`.
+# Measures runs of `fanwatch`; the scripts beside this one source it. It sets `top`.
 set -eu
 top=$(cd -- "$(dirname -- "${BASH_SOURCE[0]}")/.." && pwd)
 by_python='
@@ -11,23 +11,25 @@ print(f"Wall time (s): {took:.2f}\nMaximum resident set size (kbytes): {peak}", 
 sys.exit(status)
 '
 
-# measure COMMAND: runs the script that the command writes. What the program prints is thrown away.
+# measure INPUT [WORD]: runs the program with the word, or else `script`, on what the function INPUT writes. What
+# the program prints is thrown away.
 measure() {
-    local script measured status=0
-    script=$(mktemp)
+    local input measured word=${2-script} status=0
+    input=$(mktemp)
     measured=$(mktemp)
-    trap "rm -f -- '$script' '$measured'" EXIT
-    "$1" >"$script"
+    trap "rm -f -- '$input' '$measured'" EXIT
+    "$1" >"$input"
 
     # the first call builds what is missing, and is not measured
     "$top/fanwatch" script <"$top/examples/first.fan" >/dev/null
 
     if [[ -x /usr/bin/time ]]; then
-        /usr/bin/time -v -o "$measured" "$top/fanwatch" script <"$script" >/dev/null || status=$?
+        /usr/bin/time -v -o "$measured" "$top/fanwatch" "$word" <"$input" >/dev/null || status=$?
         grep -E 'Elapsed|Maximum resident' "$measured" | tr -d '\t'
     else
-        python3 -c "$by_python" "$measured" "$top/fanwatch" script <"$script" >/dev/null || status=$?
+        python3 -c "$by_python" "$measured" "$top/fanwatch" "$word" <"$input" >/dev/null || status=$?
         cat -- "$measured"
     fi
     echo "Status of the program: $status"
+    rm -f -- "$input" "$measured"
 }
