@@ -1,6 +1,7 @@
 pub mod Carrying
 pub mod FirstNumbers
 pub mod Names
+pub mod Only
 pub mod Rising
 pub mod Standing
 pub mod Walked

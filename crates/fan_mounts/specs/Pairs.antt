@@ -1,5 +1,5 @@
 -- A map from pairs of numbers, and what stands at two numbers. No public clause cites this.
-use Rattle.std.specs.Prelude.{◌≡◌, ℕ, ◌==◌, ◌&&◌, List, [], ◌∷◌, Option, None, if◌then◌else◌}
+use Rattle.std.specs.Prelude.{◌≡◌, ℕ, ◌==◌, ◌&&◌, Bool, List, [], ◌∷◌, Option, None, if◌then◌else◌}
 use Rattle.std.specs.BTreeMap.{is_at}
 use Rattle.std.specs.Map.{lookup}
 use Rattle.std.specs.Ordering.{nat_cmp, ordering_then}
@@ -37,6 +37,10 @@ Puts before after first second found =
 abbrev pub IsEmptied : Standing → Standing → Option MountPoint → Type 0
 IsEmptied before after point =
     (a b : ℕ) → after a b ≡ (if points.is_at a b point then None else before a b)
+
+-- a mount has a number
+abbrev pub has_number : ℕ → Mount → Bool
+has_number number mount = mount.number == number
 
 -- what is left at two numbers of what stood there, once the mounts with a number are gone
 abbrev pub left_at : ℕ → ℕ → ℕ → List Mount → Option Mount → Option Mount

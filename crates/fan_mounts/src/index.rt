@@ -1,6 +1,6 @@
 // The mounts by what they stand on.
-ghost use Rattle.std.specs.Prelude.{◌≡◌, ℕ, None, Some, OnErr, OnOk, is_some, true, false};
-ghost use Rattle.fan_mounts.specs.Pairs.{Drops, IsEmptied, IsSame, Puts, standing};
+ghost use Rattle.std.specs.Prelude.{◌≡◌, ℕ, None, Some, OnErr, OnOk, count_by, is_some, true, false};
+ghost use Rattle.fan_mounts.specs.Pairs.{Drops, IsEmptied, IsSame, Puts, has_number, standing};
 
 use super::mount::{Mount, MountPoint};
 use fan_io::NoMemory;
@@ -60,15 +60,22 @@ impl Index {
         Ok(())
     }
 
-    /// Removes those mounts of a list that have a number from where they stand. Allocates nothing.
-    pub(crate) fn remove_all(&mut self, mounts: &[Mount], number: u32)
-        ensures { Drops (standing self.old) (standing self.new) number mounts.now }
+    /// Removes those mounts of a list that have a number from where they stand, and counts them.
+    /// Allocates nothing.
+    pub(crate) fn remove_all(&mut self, mounts: &[Mount], number: u32) -> usize
+        ensures dropped { Drops (standing self.old) (standing self.new) number mounts.now }
+        ensures count { result ≡ count_by (has_number number) mounts.now }
     {
-        for mount in mounts {
+        let mut left = mounts;
+        let mut count = 0;
+        while let Some((mount, rest)) = left.split_first() {
             if mount.number == number {
                 self.remove(mount.point);
+                count += 1;
             }
+            left = rest;
         }
+        count
     }
 
     // Removes what stands at a point, if it is one.

@@ -1,8 +1,9 @@
 // All mounts, and the walk of a path through them.
-ghost use Rattle.std.specs.Prelude.{◌≡◌, ℕ, ◌==◌, ◌∷◌, ◌++◌, List, [], IfOk, IfErr, OnOk, OnErr, Ok, Err, None, Some, is_some, true, false};
+ghost use Rattle.std.specs.Prelude.{◌≡◌, ℕ, ◌==◌, ◌∷◌, ◌++◌, List, [], count_by, position, IfOk, IfErr, OnOk, OnErr, Ok, Err, None, Some, is_some, true, false};
 ghost use Rattle.fan_bits.specs.Places.{IsObject, IsPlace};
 ghost use Rattle.fan_mounts.specs.Kept.{AreKept};
 ghost use Rattle.fan_mounts.specs.Mounts.{AreMounts, carries, initial_mounts, mount_at, mount_of, mounted, others, root_mount, unmounted, with_mount};
+ghost use Rattle.fan_mounts.specs.Pairs.{has_number};
 ghost use Rattle.fan_mounts.specs.Reaches.{Reaches, place_of, root_place};
 ghost use Rattle.fan_tree.specs.Tree.{IsRefused, drawn};
 ghost use Rattle.fan_tree.specs.Whole.{IsTree};
@@ -184,7 +185,36 @@ impl Mounts {
         requires { (number == root_mount) ≡ false }
         ensures { self.new ≡ others number self.old }
     {
-        self.index.remove_all(&self.mounts, number);
-        self.mounts.retain(move |mount| mount.number != number);
+        let count = self.index.remove_all(&self.mounts, number);
+        remove_counted(&mut self.mounts, number, count);
     }
+}
+
+// Removes the mounts with a number, of which there are so many.
+fn remove_counted(mounts: &mut Vec<Mount>, number: u32, count: usize)
+    requires { count ≡ count_by (has_number number) mounts.old.items }
+    ensures { mounts.new.items ≡ others number mounts.old.items }
+{
+    if count == 1 {
+        remove_only(mounts, number);
+    } else {
+        mounts.retain(move |mount| mount.number != number);
+    }
+}
+
+// Removes the mount with a number, which it alone has.
+fn remove_only(mounts: &mut Vec<Mount>, number: u32)
+    requires { count_by (has_number number) mounts.old.items ≡ 1 }
+    ensures { mounts.new.items ≡ others number mounts.old.items }
+{
+    if let Some(index) = index_of(mounts, number) {
+        mounts.remove(index);
+    }
+}
+
+// Where the first mount with a number stands.
+fn index_of(mounts: &[Mount], number: u32) -> Option<usize>
+    ensures { result ≡ position (has_number number) mounts.now }
+{
+    mounts.iter().position(|mount| mount.number == number)
 }
