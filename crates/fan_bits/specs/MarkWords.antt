@@ -159,6 +159,10 @@ perm_events = open_perm ∷ access_perm ∷ open_exec_perm ∷ []
 abbrev pub handle_events : List ℕ
 handle_events = attrib ∷ moved_from ∷ moved_to ∷ create ∷ delete ∷ delete_self ∷ move_self ∷ []
 
+-- the events of a file or directory that was itself removed or renamed
+abbrev pub self_events : List ℕ
+self_events = delete_self ∷ move_self ∷ []
+
 -- the bits that a mask may have
 abbrev pub mask_bits : List ℕ
 mask_bits =

@@ -1,6 +1,6 @@
 // The flag word with which a group is made: fanotify_init(2).
 ghost use Rattle.std.specs.Prelude.{◌≡◌, ◌↔◌, ◌^◌, ℕ, IsErr, IsOk, IfErr, IfOk, IfSome, is_some};
-ghost use Rattle.fan_bits.specs.Words.{IsInitFlags, is_init_flags, has_only, init_flags, agree, occurs, class_of, has_handles, unlimited_queue, unlimited_marks, report_tid, report_fid, report_dir_fid};
+ghost use Rattle.fan_bits.specs.Words.{IsInitFlags, is_init_flags, has_only, init_flags, agree, occurs, class_of, has_handles, unlimited_queue, unlimited_marks, report_tid, report_fid, report_dir_fid, report_name};
 
 use super::class::Class;
 use super::errno::Errno;
@@ -127,7 +127,16 @@ impl InitWords {
         self.has(InitFlags::REPORT_DIR_FID)
     }
 
-    /// Whether events report handles instead of descriptors: one of the two is given.
+    /// Whether FAN_REPORT_NAME is given: beside the handle of a directory, events report the name of
+    /// an entry in it.
+    pub fn reports_name(self) -> bool
+        ensures { result ≡ occurs self.bits report_name }
+    {
+        self.has(InitFlags::REPORT_NAME)
+    }
+
+    /// Whether events report handles instead of descriptors: FAN_REPORT_FID or FAN_REPORT_DIR_FID is
+    /// given.
     pub fn has_handles(self) -> bool
         ensures { result ≡ has_handles self.bits }
     {

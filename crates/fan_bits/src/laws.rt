@@ -10,20 +10,35 @@ ghost use Rattle.fan_bits.specs.declared.mark.Mark.{Mark};
 ghost use Rattle.fan_bits.specs.declared.mark_call.MarkWords.{MarkWords};
 ghost use Rattle.fan_bits.specs.declared.place.Happening.{Happening};
 ghost use Rattle.fan_bits.specs.Interest.{interest_order, interests, near, wanted};
-ghost use Rattle.fan_bits.specs.MarkWords.{event_on_child, modify_bit, ondir, open_bit, open_perm_bit, overflow_bit};
+ghost use Rattle.fan_bits.specs.MarkWords.{access, access_perm, attrib, close_nowrite, close_write, create, delete, delete_self, event_on_child, modify_bit, move_self, moved_from, moved_to, ondir, open_bit, open_exec, open_exec_perm, open_perm_bit, overflow_bit};
 ghost use Rattle.fan_bits.specs.Marks.{IsChange, IsMarkList, changed, listed, mark_of, on, order_number, order_of, updated};
 ghost use Rattle.fan_bits.specs.Words.{bit, report_dir_fid, report_fid, report_name};
 
 use super::bits::{
-    FAN_EVENT_ON_CHILD, FAN_MODIFY, FAN_ONDIR, FAN_OPEN, FAN_OPEN_PERM, FAN_Q_OVERFLOW,
-    FAN_REPORT_DIR_FID, FAN_REPORT_FID, FAN_REPORT_NAME,
+    FAN_ACCESS, FAN_ACCESS_PERM, FAN_ATTRIB, FAN_CLOSE_NOWRITE, FAN_CLOSE_WRITE, FAN_CREATE,
+    FAN_DELETE, FAN_DELETE_SELF, FAN_EVENT_ON_CHILD, FAN_MODIFY, FAN_MOVE_SELF, FAN_MOVED_FROM,
+    FAN_MOVED_TO, FAN_ONDIR, FAN_OPEN, FAN_OPEN_EXEC, FAN_OPEN_EXEC_PERM, FAN_OPEN_PERM,
+    FAN_Q_OVERFLOW, FAN_REPORT_DIR_FID, FAN_REPORT_FID, FAN_REPORT_NAME,
 };
 
 /// The constants of this crate are the bits with these numbers.
 pub fn bits_are_numbered()
-    ensures open { FAN_OPEN ≡ open_bit }
+    ensures access { FAN_ACCESS ≡ bit access }
     ensures modify { FAN_MODIFY ≡ modify_bit }
+    ensures attrib { FAN_ATTRIB ≡ bit attrib }
+    ensures close_write { FAN_CLOSE_WRITE ≡ bit close_write }
+    ensures close_nowrite { FAN_CLOSE_NOWRITE ≡ bit close_nowrite }
+    ensures open { FAN_OPEN ≡ open_bit }
+    ensures moved_from { FAN_MOVED_FROM ≡ bit moved_from }
+    ensures moved_to { FAN_MOVED_TO ≡ bit moved_to }
+    ensures create { FAN_CREATE ≡ bit create }
+    ensures delete { FAN_DELETE ≡ bit delete }
+    ensures delete_self { FAN_DELETE_SELF ≡ bit delete_self }
+    ensures move_self { FAN_MOVE_SELF ≡ bit move_self }
+    ensures open_exec { FAN_OPEN_EXEC ≡ bit open_exec }
     ensures open_perm { FAN_OPEN_PERM ≡ open_perm_bit }
+    ensures access_perm { FAN_ACCESS_PERM ≡ bit access_perm }
+    ensures open_exec_perm { FAN_OPEN_EXEC_PERM ≡ bit open_exec_perm }
     ensures overflow { FAN_Q_OVERFLOW ≡ overflow_bit }
     ensures event_on_child { FAN_EVENT_ON_CHILD ≡ bit event_on_child }
     ensures ondir { FAN_ONDIR ≡ bit ondir }

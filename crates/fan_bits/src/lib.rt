@@ -34,8 +34,10 @@ mod place;
 mod tests;
 
 pub use bits::{
-    CHILD_EVENTS, FAN_EVENT_ON_CHILD, FAN_MODIFY, FAN_ONDIR, FAN_OPEN, FAN_OPEN_PERM,
-    FAN_Q_OVERFLOW, FAN_REPORT_DIR_FID, FAN_REPORT_FID, FAN_REPORT_NAME,
+    CHILD_EVENTS, FAN_ACCESS, FAN_ACCESS_PERM, FAN_ATTRIB, FAN_CLOSE_NOWRITE, FAN_CLOSE_WRITE,
+    FAN_CREATE, FAN_DELETE, FAN_DELETE_SELF, FAN_EVENT_ON_CHILD, FAN_MODIFY, FAN_MOVE_SELF,
+    FAN_MOVED_FROM, FAN_MOVED_TO, FAN_ONDIR, FAN_OPEN, FAN_OPEN_EXEC, FAN_OPEN_EXEC_PERM,
+    FAN_OPEN_PERM, FAN_Q_OVERFLOW, FAN_REPORT_DIR_FID, FAN_REPORT_FID, FAN_REPORT_NAME,
 };
 pub use change::{Change, Changed, updated};
 pub use class::Class;
@@ -49,5 +51,6 @@ pub use laws::{
 };
 pub use mark::{Mark, Order};
 pub use mark_call::{MarkWords, mark_words};
+pub use mask::has_self_event;
 pub use outcome::StepOutcome;
 pub use place::{Happening, Interest, Place};

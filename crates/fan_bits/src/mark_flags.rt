@@ -125,6 +125,11 @@ impl MaskBits {
             | MaskBits::MOVE_SELF.0,
     );
 
+    // The events of a file or directory itself.
+    pub(crate) const SELF_EVENTS: MaskBits = MaskBits(
+        MaskBits::DELETE_SELF.0 | MaskBits::MOVE_SELF.0,
+    );
+
     // The events that a mark on a directory reports of its entries with FAN_EVENT_ON_CHILD.
     pub(crate) const CHILD_EVENTS: MaskBits = MaskBits(
         MaskBits::ACCESS.0

@@ -1,6 +1,6 @@
 // The mask of a call of fanotify_mark(2): which bits it may have.
 ghost use Rattle.std.specs.Prelude.{◌≡◌, ◌&&◌, ◌||◌, not, IfSome, is_some};
-ghost use Rattle.fan_bits.specs.MarkWords.{handle_events, is_mask, is_notif, mark_mount, mask_bits, perm_events};
+ghost use Rattle.fan_bits.specs.MarkWords.{handle_events, is_mask, is_notif, mark_mount, mask_bits, perm_events, self_events};
 ghost use Rattle.fan_bits.specs.Words.{class_of, has_any, has_handles, has_only, occurs};
 
 use super::class::Class;
@@ -56,4 +56,12 @@ fn has_handle_event(bits: MaskBits) -> bool
     ensures { result ≡ has_any handle_events bits.0 }
 {
     bits.intersects(MaskBits::HANDLE_EVENTS)
+}
+
+/// Whether some events have one of a file or directory that was itself removed or renamed:
+/// FAN_DELETE_SELF or FAN_MOVE_SELF of fanotify_mark(2).
+pub fn has_self_event(events: u32) -> bool
+    ensures { result ≡ has_any self_events events }
+{
+    MaskBits(u64::from(events)).intersects(MaskBits::SELF_EVENTS)
 }

@@ -16,7 +16,7 @@ pub struct Place {
     pub fs: u32,
     /// The file or directory.
     pub inode: u32,
-    /// The directory that has it. A file always has one; the root of a filesystem has none.
+    /// The directory that it is an entry of. A file always has one; the root of a filesystem has none.
     pub parent: Option<u32>,
     /// Whether it is a directory.
     pub dir: bool,
