@@ -1,7 +1,9 @@
 // What a group is told of a happening: fanotify(7).
 ghost use Rattle.std.specs.Prelude.{◌≡◌, IfOk};
 ghost use Rattle.fan_event.specs.Events.{event_for, with_bits};
+ghost use Rattle.fan_event.specs.Names.{IsName};
 
+use super::reported::target_of;
 use super::target::Target;
 use fan_bits::{Happening, InitWords};
 use fan_io::NoMemory;
@@ -48,25 +50,31 @@ impl Event {
 }
 
 /// What a group with the flags `init` is told of a happening: `bits` of it, done by the process
-/// `pid` in its thread `tid`. It is a permission event if `perm` holds.
+/// `pid` in its thread `tid`. The object was reached by `name`, or the entry has it. It is a
+/// permission event if `perm` holds. Which handles and names are reported is told in docs/FORMATS.md,
+/// after fanotify_init(2) under FAN_REPORT_DIR_FID and FAN_REPORT_NAME.
+///
+/// # Errors
+/// `NoMemory` if no memory was found for the name.
 pub fn event_for(
+    alloc: Global,
     init: InitWords,
     happening: &Happening,
+    name: &[u8],
     bits: u32,
     pid: u32,
     tid: u32,
     perm: bool,
-) -> Event
-    ensures { result ≡ event_for init.bits happening.now bits pid tid perm }
+) -> Result<Event, NoMemory>
+    requires { IsName name.now }
+    ensures { IfOk result (λ event. event
+        ≡ event_for init.bits happening.now name.now bits pid tid perm) }
 {
-    Event {
+    Ok(Event {
         bits,
         ondir: happening.ondir,
         who: if init.reports_tid() { tid } else { pid },
         perm,
-        target: Target::Fd {
-            mount: happening.place.mount,
-            inode: happening.place.inode,
-        },
-    }
+        target: target_of(alloc, init, happening, name, bits)?,
+    })
 }

@@ -4,8 +4,8 @@
 //! and the same object. [`key_hash`] gives such events the same number, by which a queue finds them:
 //!
 //! ```
-//! let opened = event_for(init, &happening, FAN_OPEN, 41, 41, false);
-//! let written = event_for(init, &happening, FAN_MODIFY, 41, 41, false);
+//! let opened = event_for(alloc, init, &happening, b"a", FAN_OPEN, 41, 41, false)?;
+//! let written = event_for(alloc, init, &happening, b"a", FAN_MODIFY, 41, 41, false)?;
 //! if same_key(&opened, &written) {
 //!     opened.take_bits(written.bits); // One event tells of both.
 //! }
@@ -16,11 +16,12 @@ mod event;
 mod key;
 pub mod laws;
 mod name;
+mod reported;
 mod target;
 #[cfg(test)]
 mod tests;
 
 pub use event::{Event, event_for};
 pub use key::{key_hash, same_key};
-pub use name::Name;
+pub use name::{Name, is_name};
 pub use target::Target;

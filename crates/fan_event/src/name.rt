@@ -1,8 +1,8 @@
 // The name of an entry in a directory.
-ghost use Rattle.std.specs.Prelude.{◌≡◌, IfOk, nat_eq};
+ghost use Rattle.std.specs.Prelude.{◌≡◌, IfOk, IsTrue, nat_eq};
 ghost use Rattle.std.specs.Cmp.{partial_equiv_from_equiv};
 ghost use Rattle.std.specs.Cmp.Lexicographic.{nat_list_eq_equiv, pointwise};
-ghost use Rattle.fan_event.specs.Names.{IsName};
+ghost use Rattle.fan_event.specs.Names.{IsName, is_name};
 
 use fan_io::{Items, NoMemory};
 use std::alloc::Global;
@@ -60,6 +60,14 @@ impl Name {
     {
         self.bytes.as_slice()
     }
+}
+
+/// Whether some bytes are a name.
+pub fn is_name(bytes: &[u8]) -> bool
+    ensures value { result ≡ is_name bytes.now }
+    ensures name { IsTrue result → IsName bytes.now }
+{
+    !bytes.is_empty() && bytes.len() <= 255 && !bytes.contains(&0)
 }
 
 impl PartialEq for Name {

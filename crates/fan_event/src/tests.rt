@@ -1,9 +1,11 @@
-// Keys of events that are reported by handles with names.
+// Which handles and names events have, and their keys.
 ghost use Rattle.fan_event.specs.Names.{IsName};
 
 use super::*;
+use fan_bits::{FAN_CREATE, FAN_DELETE_SELF, FAN_OPEN, Happening, Place, init_words};
 use fan_io::NoMemory;
 use std::alloc::Global;
+use std::fmt::Write;
 use std::test::Fail;
 
 // An event of process 41 at an entry of directory 2, and of no other object.
@@ -23,6 +25,104 @@ fn at_entry(alloc: Global, bits: u32, name: &[u8; 1]) -> Result<Event, NoMemory>
         perm: false,
         target,
     })
+}
+
+// A line is the flags of a group and what happens, ' = ' and what the group is told: the handle of the
+// object, that of the directory and the name. The file 5 is the entry `a` of directory 4, which is one
+// of directory 2. `entry` is FAN_CREATE in directory 4, `list` and `open` are FAN_OPEN of directory 4 and
+// of the file, and `rmdir` and `unlink` are FAN_DELETE_SELF of them.
+const REPORTED: &str = "\
+0 open = mount 3 inode 5
+0 list = mount 3 inode 4
+200 entry = Some(4) None
+200 list = Some(4) None
+200 rmdir = Some(4) None
+200 open = Some(5) None
+200 unlink = Some(5) None
+400 entry = None Some(4)
+400 list = None Some(4)
+400 rmdir = None Some(4)
+400 open = None Some(4)
+400 unlink = Some(5) None
+c00 entry = None Some(4) a
+c00 list = None Some(4) .
+c00 rmdir = None Some(4) .
+c00 open = None Some(4) a
+c00 unlink = Some(5) None
+600 entry = None Some(4)
+600 list = None Some(4)
+600 open = Some(5) Some(4)
+600 unlink = Some(5) None
+e00 entry = None Some(4) a
+e00 list = None Some(4) .
+e00 rmdir = None Some(4) .
+e00 open = Some(5) Some(4) a
+e00 unlink = Some(5) None
+";
+
+#[test]
+fn each_group_is_told_the_handles_and_names_that_it_asks_for(rt: HostRuntime) -> Result<(), Fail> {
+    for line in REPORTED.lines() {
+        let Some((row, wanted)) = line.split_once(" = ") else {
+            continue;
+        };
+        let shown = reported(rt.alloc(), row)?;
+        assert_eq!(rt; shown.as_str(), wanted, "at {row}");
+    }
+    Ok(())
+}
+
+// What a group is told, by its flags and what happens.
+fn reported(alloc: Global, row: &str) -> Result<String, Fail> {
+    let (flags, kind) = row.split_once(' ').unwrap_or(("", ""));
+    let init = init_words(u32::from_str_radix(flags, 16).unwrap_or(0))?;
+    let happening = happening(kind);
+    let event = event_for(alloc, init, &happening, b"a", happening.bits, 41, 41, false)?;
+    shown(alloc, &event.target)
+}
+
+// An object, as a line has it.
+fn shown(alloc: Global, target: &Target) -> Result<String, Fail> {
+    let mut out = String::new(alloc);
+    match target {
+        Target::Fd { mount, inode } => write!(out, "mount {mount} inode {inode}")?,
+        Target::Handle {
+            object,
+            dir,
+            name,
+            ..
+        } => {
+            write!(out, "{object:?} {dir:?}")?;
+            if let Some(name) = name {
+                let name = std::str::from_utf8(name.bytes()).unwrap_or("");
+                write!(out, " {name}")?;
+            }
+        }
+    }
+    Ok(out)
+}
+
+// What happens, by a word.
+fn happening(kind: &str) -> Happening {
+    let dir = kind != "open" && kind != "unlink";
+    let place = Place {
+        mount: 3,
+        fs: 1,
+        inode: if dir { 4 } else { 5 },
+        parent: Some(if dir { 2 } else { 4 }),
+        dir,
+    };
+    let bits = match kind {
+        "entry" => FAN_CREATE,
+        "rmdir" | "unlink" => FAN_DELETE_SELF,
+        _ => FAN_OPEN,
+    };
+    Happening {
+        place,
+        bits,
+        ondir: dir && kind != "entry",
+        entry: kind == "entry",
+    }
 }
 
 #[test]
