@@ -79,7 +79,8 @@ fn object_len(object: &Option<u32>) -> u32
 
 /// How many bytes [`write_infos`] puts for this object: 0 to 312, a multiple of 4.
 pub fn infos_len(target: &Target) -> u32
-    ensures { result ≡ length (infos_of target.now) }
+    ensures value { result ≡ length (infos_of target.now) }
+    ensures most { result ≤ 312 }
 {
     match target {
         Target::Fd { .. } => 0,

@@ -1,10 +1,9 @@
 -- How far each step of a listener moves its numbers.
-use Rattle.std.proofs.Common.{◌≡◌, ℕ, ◌+◌, ◌-◌, ◌≤◌, Bool, true, false, not, cond, List, [], ◌∷◌, ◌++◌, length, ◌==◌, Option, Some, None, Result, Ok, Err, IfOk, OnErr, refl, ap, sym, subst, arith, length-append, length-drop, nat_lt, nat_le}
+use Rattle.std.proofs.Common.{◌≡◌, ℕ, ◌+◌, ◌-◌, ◌≤◌, Bool, true, false, not, cond, List, [], ◌∷◌, ◌++◌, length, ◌==◌, Option, Some, None, Result, Ok, Err, IfOk, OnErr, refl, ap, sym, subst, arith, length-append, length-drop, nat_le}
 use Rattle.fan_bits.specs.declared.errno.Errno.{Errno}
 use Rattle.fan_bits.specs.declared.errno.Errno.TheVariants as errno
 use Rattle.fan_event.specs.declared.event.Event.{Event}
 use Rattle.fan_queue.specs.declared.entry.Body.{Body}
-use Rattle.fan_queue.specs.declared.entry.Body.TheVariants.{Told, Lost}
 use Rattle.fan_queue.specs.declared.entry.Entry.{Entry}
 use Rattle.fan_queue.specs.declared.entry.Put.{Put}
 use Rattle.fan_listener.specs.declared.answers.Answered.{Answered}
@@ -14,7 +13,7 @@ use Rattle.fan_listener.specs.ListenerState.{ListenerState}
 use Rattle.fan_queue.specs.Queue.{queued}
 use Rattle.fan_listener.specs.Queue.{put}
 use Rattle.fan_listener.proofs.PutLemmas.{by_put_to}
-use Rattle.fan_listener.specs.Records.{read_of, read_front, front_read, front_within, next_fd_after, fd_after, record_len}
+use Rattle.fan_listener.specs.Records.{fd_after, first_is_longer, front_read, front_within, next_fd_after, read_front, read_of, record_len, takes_fd}
 use Rattle.fan_listener.specs.Responses.{written, responded, answered, waiting_under, verdict, fd_in, value_in, answer_of, closed_of}
 use Rattle.fan_listener.specs.Bounds.{Makes}
 
@@ -56,8 +55,11 @@ makes-tried old new event (Err why) done kept = rw kept (stays 1 old)
 
 -- an entry takes one descriptor at most
 pub fd_after-le : (fd : ℕ) (body : Body) → fd_after fd body ≤ fd + 1
-fd_after-le fd (Told event) = omega arith
-fd_after-le fd Lost = omega arith
+fd_after-le fd body = by (takes_fd body)
+  where
+    by : (takes : Bool) → cond takes (fd + 1) fd ≤ fd + 1
+    by true = omega arith
+    by false = omega arith
 
 -- entries take one descriptor each at most
 pub next_fd_after-le : (fd : ℕ) (entries : List Entry) → next_fd_after fd entries ≤ fd + length entries
@@ -80,8 +82,9 @@ length-front_within : (size : ℕ) (entries : List Entry) → length (front_with
 unfolding front_within
 length-front_within size [] = omega arith
 length-front_within size (entry ∷ rest) =
-    shorter (nat_le record_len size) entry (front_within (size - record_len) rest) rest
-    (length-front_within (size - record_len) rest)
+    let len = record_len entry.body in
+    shorter (nat_le len size) entry (front_within (size - len) rest) rest
+    (length-front_within (size - len) rest)
 
 -- a front that leaves the queue takes one descriptor for each entry at most
 pub makes-read_front : (state : ListenerState) (size : ℕ)
@@ -128,7 +131,7 @@ pub makes-read_of : (state : ListenerState) (size : ℕ) (bytes : List ℕ) (aft
     → read_of state size ≡ Ok (bytes, after) → Makes 0 state after
 unfolding read_of
 makes-read_of state size bytes after given =
-    read_front-makes state.closed (length state.queue == 0) (nat_lt size record_len) state size bytes
+    read_front-makes state.closed (length state.queue == 0) (first_is_longer size state.queue) state size bytes
     after given
 
 -- a response in form makes nothing

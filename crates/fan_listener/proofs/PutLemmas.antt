@@ -1,5 +1,5 @@
 -- What a put on a queue makes: one of four outcomes.
-use Rattle.std.proofs.Common.{◌≡◌, ℕ, Bool, true, false, cond, find, Option, Some, None, ◌≤◌, refl, ap, sym, subst, ◌∙◌, arith, append-nil}
+use Rattle.std.proofs.Common.{◌≡◌, ℕ, Bool, true, false, ◌&&◌, cond, find, Option, Some, None, ◌≤◌, refl, ap, sym, subst, ◌∙◌, arith, append-nil}
 use Rattle.fan_event.specs.declared.event.Event.{Event}
 use Rattle.fan_lists.specs.First.{change_first}
 use Rattle.fan_queue.specs.declared.entry.Body.TheVariants.{Told, Lost}
@@ -11,8 +11,8 @@ use Rattle.fan_queue.specs.QueueState.{QueueState}
 use Rattle.fan_queue.proofs.QueueLemmas.{none_takes}
 use Rattle.fan_listener.specs.Queue.{is_queued, limit_of, put as put_to, put_in, queue_of, with_queue}
 use Rattle.fan_listener.specs.ListenerState.{ListenerState}
-use Rattle.fan_listener.specs.Records.{next_fd_after, pendings}
-use Rattle.fan_listener.proofs.WaitLemmas.{next_fd_after-append, next_fd_after-change_first, pendings-append, pendings-change_first}
+use Rattle.fan_listener.specs.Records.{has_fd, next_fd_after, pendings}
+use Rattle.fan_listener.proofs.WaitLemmas.{next_fd_after-append, next_fd_after-change_first, pending_of-handles, pendings-append, pendings-change_first}
 
 module _ (P : Put × QueueState → Type 0) (state : QueueState) (event : Event)
     (stays : (entry : ℕ) → P (puts.Overflow entry, state))
@@ -76,15 +76,15 @@ pub record Keeps (old new : QueueState) : Type 0 where
   pub next : (fd : ℕ) → next_fd_after fd new.entries ≡ next_fd_after fd old.entries
   pub made : old.next_entry ≤ new.next_entry
 
--- they do where an event was not queued itself
+-- they do where no event was queued that takes a descriptor
 pub keeps-put : (old new : QueueState) (event : Event) (outcome : Put) → (outcome, new) ≡ put old event
-    → is_queued outcome ≡ false → Keeps old new
+    → (is_queued outcome && has_fd event.target) ≡ false → Keeps old new
 unfolding queued
 keeps-put old new event outcome is =
     subst P (sym is) (by_put P old event stays loses merges comes)
   where
     P : Put × QueueState → Type 0
-    P done = is_queued done.0 ≡ false → Keeps old done.1
+    P done = (is_queued done.0 && has_fd event.target) ≡ false → Keeps old done.1
 
     same : Keeps old old
     same = record { limit = refl; waiting = λ fd. refl; next = λ fd. refl; made = omega arith }
@@ -112,7 +112,14 @@ keeps-put old new event outcome is =
     }
 
     comes : P (puts.Queued old.next_entry, queued old (Told event))
-    comes other = absurd cc
+    comes handles = record {
+      limit = refl;
+      waiting = λ fd. pendings-append fd old.entries _
+          ∙ rw (pending_of-handles event (next_fd_after fd old.entries) old.next_entry handles)
+          (append-nil (pendings fd old.entries));
+      next = λ fd. next_fd_after-append fd old.entries _ ∙ rw handles refl;
+      made = omega arith;
+    }
 
 -- an event that was queued is the next entry
 pub queued-put : (old new : QueueState) (event : Event) (outcome : Put) → (outcome, new) ≡ put old event
@@ -139,11 +146,19 @@ queued_as old new event outcome entry is queued_is =
     (ap entry_in (sym queued_is ∙ done.0), done.1)
 
 -- and no other outcome queues one
-pub not_queued : (outcome : Put) → ((entry : ℕ) → outcome ≡ puts.Queued entry → ⊥) → is_queued outcome ≡ false
-not_queued (puts.Queued entry) other = absurd (other entry refl)
-not_queued (puts.Merged entry) other = refl
-not_queued (puts.Overflow entry) other = refl
-not_queued puts.Closed other = refl
+pub not_queued : (outcome : Put) (under : Bool) → ((entry : ℕ) → outcome ≡ puts.Queued entry → ⊥)
+    → (is_queued outcome && under) ≡ false
+not_queued (puts.Queued entry) under other = absurd (other entry refl)
+not_queued (puts.Merged entry) under other = refl
+not_queued (puts.Overflow entry) under other = refl
+not_queued puts.Closed under other = refl
+
+-- an outcome counts for nothing at an event that takes no descriptor
+pub none_under : (outcome : Put) (under : Bool) → under ≡ false → (is_queued outcome && under) ≡ false
+none_under (puts.Queued entry) under none = none
+none_under (puts.Merged entry) under none = refl
+none_under (puts.Overflow entry) under none = refl
+none_under puts.Closed under none = refl
 
 -- a put to the queue of an open listener is a put to it
 pub put-queue : (state : ListenerState) (old new : QueueState) (event : Event) (outcome : Put)

@@ -1,34 +1,46 @@
--- The front of a queue by division.
-use Rattle.std.proofs.Common.{◌≡◌, ℕ, ◌+◌, ◌-◌, ◌*◌, ◌<◌, ◌≤◌, true, false, List, [], ◌∷◌, ◌++◌, append_assoc, drop, take, length, min, zero, suc, refl, ap, sym, ◌∙◌, arith, nat_le, slice_get, Option, Some, None, IfSome, IfNone}
-use native.Mathlib.Numerals.{unary_clauses}
+-- The front of a queue, whose records a read gives.
+use Rattle.std.proofs.Common.{◌≡◌, ℕ, ◌+◌, ◌-◌, ◌<◌, ◌≤◌, true, false, List, [], ◌∷◌, ◌++◌, append_assoc, append-nil, drop, take, length, refl, ap, sym, ◌∙◌, arith, nat_le, slice_get, Option, Some, None, IfSome, IfNone}
 use Rattle.std.proofs.lemmas.Bool.Decides.{nat_tests}
 use Rattle.fan_queue.specs.declared.entry.Entry.{Entry}
-use Rattle.std.proofs.lemmas.List.{drop_all, drop_more, get_or-take, length-take}
+use Rattle.std.proofs.lemmas.List.{drop_all, drop_more, get_or-take, length-take, take_more}
 use Rattle.std.proofs.lemmas.Option.{get_or_from_slice_get, slice_get_within, some_pair_parts}
 use Rattle.fan_queue.specs.Queue.{taken, taken_from}
 use Rattle.fan_queue.specs.QueueState.{QueueState}
-use Rattle.fan_listener.specs.Records.{front_within}
+use Rattle.fan_lists.proofs.Places.{drop_next}
+use Rattle.fan_listener.specs.Records.{front_within, record_len}
 
--- so many records fit, and no more
-pub front_by_count : (count size : ℕ) (entries : List Entry) → 24 * count ≤ size
-    → size < 24 * count + 24 → take (min count (length entries)) entries ≡ front_within size entries
+-- a front goes on with an entry whose record fits
+pub front_goes_on : (index left len after : ℕ) (entries : List Entry) (entry : Entry)
+    → slice_get entries index ≡ Some entry → len ≡ record_len entry.body → left ≡ len + after
+    → take index entries ++ front_within left (drop index entries)
+    ≡ take (index + 1) entries ++ front_within after (drop (index + 1) entries)
 unfolding front_within
-front_by_count zero size [] least most = refl
-front_by_count (suc count) size [] least most = simp unary_clauses refl
-front_by_count zero size (entry ∷ rest) least most =
-    let none : nat_le 24 size ≡ false = grind (arith, nat_tests) in
-    rw none (simp unary_clauses refl)
-front_by_count (suc count) size (entry ∷ rest) least most =
-    let some : nat_le 24 size ≡ true = grind (arith, nat_tests) in
-    simp unary_clauses (rw some (ap (λ xs. entry ∷ xs) (front_by_count count (size - 24) rest
-    (omega arith) (omega arith))))
+front_goes_on index left len after entries entry is len_is parts =
+    let rest = front_within after (drop (index + 1) entries) in
+    let test : nat_le (record_len entry.body) left ≡ true = grind (arith, nat_tests, len_is, parts) in
+    let over : left - record_len entry.body ≡ after = omega (arith, len_is, parts) in
+    let within = slice_get_within entries index entry is in
+    let first = get_or_from_slice_get entries index entry entry is in
+    rw (drop_next entries index entry is, test, over, take_more entries index entry within, first)
+    (sym (append_assoc (take index entries) (entry ∷ []) rest))
 
--- six pieces that were put one after another
-pub six_pieces : (old a b c d e f : List ℕ) {r1 r2 r3 r4 r5 r6 : List ℕ} → r1 ≡ old ++ a
-    → r2 ≡ r1 ++ b → r3 ≡ r2 ++ c → r4 ≡ r3 ++ d → r5 ≡ r4 ++ e → r6 ≡ r5 ++ f
-    → r6 ≡ old ++ (a ++ b ++ c ++ d ++ e ++ f)
-six_pieces old a b c d e f one two three four five six =
-    rw (six, five, four, three, two, one) (simp append_assoc)
+-- and ends where one doesn't fit
+pub front_stops : (index left len : ℕ) (entries : List Entry) (entry : Entry)
+    → slice_get entries index ≡ Some entry → len ≡ record_len entry.body → left < len
+    → front_within left (drop index entries) ≡ []
+unfolding front_within
+front_stops index left len entries entry is len_is longer =
+    let test : nat_le (record_len entry.body) left ≡ false = grind (arith, nat_tests, len_is, longer) in
+    rw (drop_next entries index entry is, test) refl
+
+-- or where the queue does
+pub front_at_end : (index len left : ℕ) (entries front : List Entry) → index ≡ len → length entries ≤ index
+    → take index entries ++ front_within left (drop index entries) ≡ front → take len entries ≡ front
+unfolding front_within
+front_at_end index len left entries front same past is =
+    let none : front_within left (drop index entries) ≡ [] = rw (drop_all index entries past) refl in
+    rw (← same) (sym (append-nil (take index entries))
+    ∙ ap (λ rest. take index entries ++ rest) (sym none) ∙ is)
 
 -- a front goes on with the entry at an index
 pub front_step : (count index : ℕ) (entries : List Entry) (entry : Entry) → index < count

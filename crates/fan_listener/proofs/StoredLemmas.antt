@@ -27,7 +27,7 @@ use Rattle.fan_queue.specs.QueueState.{QueueState}
 use Rattle.fan_listener.specs.declared.answers.Pending.{Pending}
 use Rattle.fan_listener.specs.declared.answers.Verdict.{Verdict}
 use Rattle.fan_listener.specs.ListenerState.{ListenerState}
-use Rattle.fan_listener.specs.Records.{next_fd_after, pending_of, pendings, read_front}
+use Rattle.fan_listener.specs.Records.{has_fd, next_fd_after, pending_of, pendings, read_front}
 use Rattle.fan_listener.specs.Responses.{is_under, verdict_on}
 use Rattle.fan_listener.specs.Stored.{CameBefore, IsStored, answers_in, is_read, rooms_of}
 use Rattle.fan_listener.proofs.ListLemmas.{AllPairs-without_first, without_first-append}
@@ -122,11 +122,11 @@ module _ {flags limit ahead next_fd : ℕ} {queue : QueueState} {asked : List Pe
     small = stored.small;
   }
 
-  module _ (event : Event) where
+  module _ (event : Event) (under : has_fd event.target ≡ true) where
     -- the event is queued under the descriptor that was next ahead
     follows-queued : ahead + 1 ≡ next_fd_after next_fd (queued queue (Told event)).entries
     unfolding queued
-    follows-queued = rw stored.follows (sym (next_fd_after-append next_fd queue.entries _))
+    follows-queued = rw stored.follows (sym (next_fd_after-append next_fd queue.entries _ ∙ rw under refl))
 
     pendings-queued : pendings next_fd (queued queue (Told event)).entries
         ≡ pendings next_fd queue.entries ++ pending_of ahead queue.next_entry (Told event)
@@ -184,7 +184,7 @@ module _ {flags limit ahead next_fd : ℕ} {queue : QueueState} {asked : List Pe
       follows = follows-queued;
       waits = ap (λ front. front ++ its ∷ []) stored.waits
           ∙ append_assoc (filter (is_read next_fd) asked) (pendings next_fd queue.entries) (its ∷ [])
-          ∙ rw (read-queued, pendings-queued, asks) refl;
+          ∙ rw (read-queued, pendings-queued, asks, under) refl;
       ordered = AllPairs-append CameBefore asked (its ∷ []) stored.ordered
           (AllPairs-cons CameBefore its [] (All-nil (CameBefore its)) (AllPairs-nil CameBefore))
           (All-weaker (λ p. p.entry < queue.next_entry) (λ p. All (CameBefore p) (its ∷ []))

@@ -11,14 +11,17 @@ use Rattle.fan_queue.specs.declared.entry.Body.TheVariants.{Told, Lost}
 use Rattle.fan_queue.specs.declared.entry.Entry.{Entry}
 use Rattle.fan_queue.specs.Queue.{body_takes, merged, takes, with_more}
 use Rattle.fan_listener.specs.declared.answers.Pending.{Pending}
-use Rattle.fan_listener.specs.Records.{fd_after, next_fd_after, pending_of, pendings}
+use Rattle.fan_listener.specs.Records.{fd_after, has_fd, next_fd_after, pending_of, pendings, takes_fd}
 use Rattle.fan_listener.specs.Stored.{is_read}
 
 -- ---- descriptors only rise
 
 fd_after-ge : (fd : ℕ) (body : Body) → fd ≤ fd_after fd body
-fd_after-ge fd (Told event) = omega arith
-fd_after-ge fd Lost = omega arith
+fd_after-ge fd body = by (takes_fd body)
+  where
+    by : (takes : Bool) → fd ≤ cond takes (fd + 1) fd
+    by true = omega arith
+    by false = omega arith
 
 -- the next one after entries is not before the first
 pub next_fd_after-ge : (fd : ℕ) (entries : List Entry) → fd ≤ next_fd_after fd entries
@@ -30,17 +33,19 @@ next_fd_after-ge fd (entry ∷ rest) =
 abbrev pub IsWithin : ℕ → ℕ → Pending → Type 0
 IsWithin from until pending = (from ≤ pending.fd) × (pending.fd < until)
 
-one_within : (b : Bool) (from until : ℕ) (pending : Pending) → IsWithin from until pending
-    → All (IsWithin from until) (cond b (pending ∷ []) [])
-one_within true from until pending within =
-    All-cons (IsWithin from until) pending [] within (All-nil (IsWithin from until))
-one_within false from until pending within = All-nil (IsWithin from until)
+one_within : (asks under : Bool) (pending : Pending)
+    → All (IsWithin pending.fd (cond under (pending.fd + 1) pending.fd))
+    (cond (asks && under) (pending ∷ []) [])
+one_within true true pending =
+    All-cons (IsWithin pending.fd (pending.fd + 1)) pending [] (omega arith, omega arith)
+    (All-nil (IsWithin pending.fd (pending.fd + 1)))
+one_within true false pending = All-nil (IsWithin pending.fd pending.fd)
+one_within false under pending = All-nil (IsWithin pending.fd (cond under (pending.fd + 1) pending.fd))
 
 pending_of-within : (fd number : ℕ) (body : Body)
     → All (IsWithin fd (fd_after fd body)) (pending_of fd number body)
 pending_of-within fd number (Told event) =
-    one_within event.perm fd (fd + 1) (record { fd = fd; entry = number; event = event })
-    (omega arith, omega arith)
+    one_within event.perm (has_fd event.target) (record { fd = fd; entry = number; event = event })
 pending_of-within fd number Lost = All-nil (IsWithin fd fd)
 
 -- so is each of those of entries
@@ -72,6 +77,17 @@ pub pendings-append : (fd : ℕ) (entries more : List Entry)
 pendings-append fd [] more = refl
 pendings-append fd (entry ∷ rest) more =
     rw (pendings-append (fd_after fd entry.body) rest more, append_assoc) refl
+
+-- ---- an event that takes no descriptor
+
+-- it never waits
+pub pending_of-handles : (event : Event) (fd number : ℕ) → has_fd event.target ≡ false
+    → pending_of fd number (Told event) ≡ []
+pending_of-handles event fd number handles = by event.perm (has_fd event.target) handles _
+  where
+    by : (asks under : Bool) → under ≡ false → (pending : Pending) → cond (asks && under) (pending ∷ []) [] ≡ []
+    by true under none pending = rw none refl
+    by false under none pending = refl
 
 -- ---- a merge
 

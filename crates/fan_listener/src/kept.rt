@@ -3,7 +3,7 @@
 ghost use Rattle.std.specs.Prelude.{◌≡◌, ◌≢◌, ℕ, ◌+◌, ◌-◌, ◌^◌, ◌<◌, ◌≤◌, true, false, length, Ok, Err, IsOk, IfOk, IfErr, IfNone, IfSome, OnOk, OnErr};
 ghost use Rattle.fan_listener.specs.ListenerState.{new_listener};
 ghost use Rattle.fan_listener.specs.Queue.{put, limit_of};
-ghost use Rattle.fan_listener.specs.Records.{read_of, read_front, records, front_within};
+ghost use Rattle.fan_listener.specs.Records.{front_within, has_fd, read_front, read_of, records};
 ghost use Rattle.fan_listener.specs.Refusals.{read_errno, write_errno};
 ghost use Rattle.fan_listener.specs.Responses.{written, answered, waiting_under, answer_of, closed_of};
 ghost use Rattle.fan_listener.specs.Bounds.{Makes};
@@ -11,7 +11,7 @@ ghost use Rattle.fan_listener.specs.Shut.{shut_state};
 
 use super::answers::{Answer, Answered, Pending, ReadRefused, Verdict, WriteRefused};
 use super::asked::AskedEvents;
-use super::records::{RECORD_LEN, drop_front, front_len, take_entries};
+use super::records::{drop_front, first_is_longer, front_within, has_fd, take_entries};
 use super::responses::{fd_field, take_waiting, value_field, verdict};
 use super::rooms::{Rooms, forget_all, take_verdict};
 use super::shut::Shut;
@@ -116,7 +116,7 @@ impl KeptListener {
     }
 
     /// Puts a permission event on the queue. It is never merged. Memory is found here for its answer
-    /// too. `NoMemory` changes nothing.
+    /// too; no response can name one that is reported by handles. `NoMemory` changes nothing.
     pub(crate) fn ask(&mut self, event: Event) -> Result<Put, NoMemory>
         requires permission { event.perm ≡ true }
         requires entries { self.old.next_entry ≤ 2 ^ 31 }
@@ -125,7 +125,11 @@ impl KeptListener {
         ensures err { OnErr result (self.new ≡ self.old) }
         ensures moved { Makes 1 self.old self.new }
     {
-        self.put_asked(event)
+        if has_fd(&event.target) {
+            self.put_asked(event)
+        } else {
+            self.put_by_handles(event)
+        }
     }
 
     /// Puts an event that is no permission event on the queue, or merges it into the first queued
@@ -137,12 +141,33 @@ impl KeptListener {
         ensures err { OnErr result (self.new ≡ self.old) }
         ensures moved { Makes 1 self.old self.new }
     {
-        self.put_told(event)
+        if has_fd(&event.target) {
+            self.put_told(event)
+        } else {
+            self.put_by_handles(event)
+        }
+    }
+
+    // Puts an event on the queue that takes no descriptor.
+    fn put_by_handles(&mut self, event: Event) -> Result<Put, NoMemory>
+        requires handles { has_fd event.target ≡ false }
+        requires entries { self.old.next_entry ≤ 2 ^ 31 }
+        ensures ok { IfOk result (λ outcome. (outcome, self.new) ≡ put self.old event) }
+        ensures never_merged { event.perm ≡ true
+            → (entry : ℕ) → result ≢ Ok (Put.Merged entry) }
+        ensures err { OnErr result (self.new ≡ self.old) }
+    {
+        if self.closed {
+            return Ok(Put::Closed);
+        }
+        let put = self.queue.put(event)?;
+        Ok(put)
     }
 
     // Puts a permission event on the queue, and among those without a verdict if it was queued.
     fn put_asked(&mut self, event: Event) -> Result<Put, NoMemory>
         requires permission { event.perm ≡ true }
+        requires descriptor { has_fd event.target ≡ true }
         requires entries { self.old.next_entry ≤ 2 ^ 31 }
         ensures ok { IfOk result (λ outcome. (outcome, self.new) ≡ put self.old event) }
         ensures never_merged { (entry : ℕ) → result ≢ Ok (Put.Merged entry) }
@@ -171,6 +196,7 @@ impl KeptListener {
     // Puts an event that is no permission event on the queue.
     fn put_told(&mut self, event: Event) -> Result<Put, NoMemory>
         requires notice { event.perm ≡ false }
+        requires descriptor { has_fd event.target ≡ true }
         requires entries { self.old.next_entry ≤ 2 ^ 31 }
         ensures ok { IfOk result (λ outcome. (outcome, self.new) ≡ put self.old event) }
         ensures err { OnErr result (self.new ≡ self.old) }
@@ -186,10 +212,11 @@ impl KeptListener {
         Ok(put)
     }
 
-    /// The records of the longest front of the queue that fits into `size` bytes. They leave the
-    /// queue, and permission events among them wait for an answer. `Closed`, `Again` if nothing is
-    /// queued and `Small` if the first record doesn't fit come in this order, and `NoMemory` after
-    /// them. A refusal changes nothing.
+    /// The records of the longest front of the queue that fits into `size` bytes: each has 24 bytes,
+    /// and in a group with handles its information records. They leave the queue, and permission
+    /// events among them wait for an answer. `Closed`, `Again` if nothing is queued and `Small` if the
+    /// first record is longer than `size` come in this order, and `NoMemory` after them. A refusal
+    /// changes nothing.
     #[tactic(auto, unfolding(crate::specs::Records::read_of))]
     pub(crate) fn read(&mut self, size: u32) -> Result<Vec<u8>, ReadRefused>
         requires { self.old.next_fd < 2 ^ 30 }
@@ -206,7 +233,7 @@ impl KeptListener {
         if self.queue.is_empty() {
             return Err(ReadRefused::Again);
         }
-        if size < RECORD_LEN {
+        if first_is_longer(&self.queue, size) {
             return Err(ReadRefused::Small);
         }
         match self.read_front(size) {
@@ -225,9 +252,9 @@ impl KeptListener {
             OnOk result (self.new ≡ read_front self.old front) }
         ensures err { OnErr result (self.new ≡ self.old) }
     {
-        let count = front_len(self.queue.len(), size);
-        let taken = take_entries(self.alloc, &self.queue, count, self.next_fd)?;
-        drop_front(&mut self.queue, count);
+        let front = front_within(&self.queue, size);
+        let taken = take_entries(self.alloc, &self.queue, front, self.next_fd)?;
+        drop_front(&mut self.queue, front.count);
         self.next_fd = taken.next_fd;
         Ok(taken.bytes)
     }

@@ -97,7 +97,7 @@ impl Listener {
     }
 
     /// Puts a permission event on the queue. It is never merged. Memory is found here for its answer
-    /// too. `NoMemory` changes nothing.
+    /// too; no response can name one that is reported by handles. `NoMemory` changes nothing.
     #[tactic(auto, unfolding(crate::specs::Queue::put))]
     pub fn ask(&mut self, event: Event) -> Result<Put, NoMemory>
         requires permission { event.perm ≡ true }
@@ -129,10 +129,11 @@ impl Listener {
         }
     }
 
-    /// The records of the longest front of the queue that fits into `size` bytes. They leave the
-    /// queue, and permission events among them wait for an answer. `Closed`, `Again` if nothing is
-    /// queued and `Small` if the first record doesn't fit come in this order, and `NoMemory` after
-    /// them. A refusal changes nothing.
+    /// The records of the longest front of the queue that fits into `size` bytes: each has 24 bytes,
+    /// and in a group with handles its information records. They leave the queue, and permission
+    /// events among them wait for an answer. `Closed`, `Again` if nothing is queued and `Small` if the
+    /// first record is longer than `size` come in this order, and `NoMemory` after them. A refusal
+    /// changes nothing.
     #[tactic(auto, unfolding(crate::specs::Records::read_of))]
     pub fn read(&mut self, size: u32) -> Result<Vec<u8>, ReadRefused>
         requires { self.old.next_fd < 2 ^ 30 }

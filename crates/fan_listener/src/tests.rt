@@ -1,17 +1,20 @@
 // Short histories of listeners, with outcomes worked out from fanotify(7).
-ghost use Rattle.std.specs.Prelude.{◌≡◌};
+ghost use Rattle.std.specs.Prelude.{◌≤◌, ◌^◌, length};
+ghost use Rattle.fan_event.specs.Names.{IsName};
 
 use super::*;
 use fan_bits::{FAN_OPEN_PERM, Happening, InitWords, Place, init_words};
+use fan_event::is_name;
 use fan_io::NoMemory;
 use std::alloc::Global;
 use std::test::Fail;
 
 // A line is a history, ' = ' and its outcomes. The words of a history are n.FLAGS.LIMIT for the listener,
-// then t, d, m and p.BITS.WHO.INODE for a told event, one on a directory, one on another mount and a
-// permission event, r.SIZE for a read, w.FD.VALUE for a response and s.FD.VALUE.LENGTH for one of another
-// length, q.ENTRY for an answer, and c for the close. The thread is WHO + 100. A record is shown as
-// [MASK FD PID], and a refusal as its variant and its error.
+// then t, d, m and p.BITS.WHO.INODE.NAME for a told event, one on a directory, one on another mount and a
+// permission event, e and f for one on the entry NAME of the directory INODE, a file or a directory,
+// r.SIZE for a read, w.FD.VALUE for a response and s.FD.VALUE.LENGTH for one of another length, q.ENTRY for
+// an answer, and c for the close. The thread is WHO + 100, and without a NAME it is a. A record is shown as
+// [MASK FD PID] with its information records, and a refusal as its variant and its error.
 const HISTORIES: &str = "\
 n.0.2 t.32.41.4 t.32.41.5 t.32.41.4 t.32.41.5 r.72 r.24 = Q1 Q2 O3 O3 [32 0 41][32 1 41][16384 -1 0] Again:Eagain
 n.4.1 p.65536.50.4 p.65536.51.5 r.48 w.0.1 q.1 = Q1 O2 [65536 0 50][16384 -1 0] A1 allow
@@ -60,9 +63,32 @@ n.0.3 t.32.41.4 t.32.41.5 t.32.41.6 t.1.41.5 r.96 = Q1 Q2 Q3 O4 [32 0 41][32 1 4
 n.0.2 t.32.41.4 t.32.41.5 t.32.41.6 r.48 t.32.41.7 t.32.41.8 r.72 = Q1 Q2 O3 [32 0 41][32 1 41] Q4 O3 [16384 -1 0][32 2 41]
 ";
 
+// The same for groups that get handles: with FAN_REPORT_FID (512) that of the object, with
+// FAN_REPORT_DIR_FID (1024) that of its directory, and with FAN_REPORT_NAME (2048) the name in it.
+const BY_HANDLES: &str = "\
+n.1536.9 t.32.41.4 r.79 r.80 = Q1 Small:Einval [32 -1 41 03001c0001000000000000000800000001000000020000000000000001001c00010000000000000008000000010000000400000000000000]
+n.3072.9 t.32.41.4 r.55 r.56 = Q1 Small:Einval [32 -1 41 0200200001000000000000000800000001000000020000000000000061000000]
+n.3072.9 e.256.41.4 e.256.41.4.abc e.64.41.4.abc e.128.41.4.abcd r.111 r.116 r.24 = Q1 Q2 M2 Q3 [256 -1 41 0200200001000000000000000800000001000000040000000000000061000000] [320 -1 41 0200200001000000000000000800000001000000040000000000000061626300][128 -1 41 020024000100000000000000080000000100000004000000000000006162636400000000] Again:Eagain
+n.512.9 e.256.41.4 f.256.41.4 r.104 = Q1 Q2 [256 -1 41 01001c00010000000000000008000000010000000400000000000000][1073742080 -1 41 01001c00010000000000000008000000010000000400000000000000]
+n.512.1 t.32.41.4 t.32.41.5 r.75 r.23 r.24 = Q1 O2 [32 -1 41 01001c00010000000000000008000000010000000400000000000000] Small:Einval [16384 -1 0]
+n.512.9 p.65536.41.4 q.1 r.52 w.0.1 w.4294967295.1 q.1 c q.1 = Q1 wait [65536 -1 41 01001c00010000000000000008000000010000000400000000000000] NotPending:Enoent NotPending:Enoent wait ok shut
+";
+
 #[test]
 fn histories_come_out_as_worked_out(rt: HostRuntime) -> Result<(), Fail> {
     for line in HISTORIES.lines() {
+        let Some((history, wanted)) = line.split_once(" = ") else {
+            continue;
+        };
+        let outcomes = play(rt.alloc(), history)?;
+        assert_eq!(rt; outcomes.as_str(), wanted, "at {history}");
+    }
+    Ok(())
+}
+
+#[test]
+fn events_by_handles_come_out_as_worked_out(rt: HostRuntime) -> Result<(), Fail> {
+    for line in BY_HANDLES.lines() {
         let Some((history, wanted)) = line.split_once(" = ") else {
             continue;
         };
@@ -110,7 +136,16 @@ fn a_permission_event_is_read_and_allowed(rt: HostRuntime) -> Result<(), Fail> {
     let happening = at_file(FAN_OPEN_PERM, 4);
     let content = init_words(0x4)?; // FAN_CLASS_CONTENT
     let mut listener = Listener::new(alloc, content, 16_384)?;
-    let event = event_for(content, &happening, FAN_OPEN_PERM, 41, 41, true);
+    let event = event_for(
+        alloc,
+        content,
+        &happening,
+        b"a",
+        FAN_OPEN_PERM,
+        41,
+        41,
+        true,
+    )?;
     let put = listener.ask(event)?;
     let record = listener.read(4096)?;
     let answered = listener.write(&[0, 0, 0, 0, 1, 0, 0, 0])?;
@@ -141,7 +176,7 @@ fn play(alloc: Global, history: &str) -> Result<String, NoMemory> {
         if !out.is_empty() {
             out.push(' ')?;
         }
-        play_word(&mut listener, word, &mut out)?;
+        play_word(alloc, &mut listener, word, &mut out)?;
     }
     Ok(out)
 }
@@ -155,28 +190,25 @@ fn number(part: Option<&str>) -> u32 {
 }
 
 // Plays one word and shows its outcome.
-fn play_word(listener: &mut Listener, word: &str, out: &mut String) -> Result<(), NoMemory> {
+fn play_word(
+    alloc: Global,
+    listener: &mut Listener,
+    word: &str,
+    out: &mut String,
+) -> Result<(), NoMemory> {
     let mut parts = word.split('.');
-    let name = parts.next().unwrap_or("");
+    let kind = parts.next().unwrap_or("");
     let a = number(parts.next());
     let b = number(parts.next());
     let c = number(parts.next());
-    if listener.entries_made() > 1000 || listener.fds_given() > 1000 {
+    let name = parts.next().unwrap_or("a").as_bytes();
+    if listener.entries_made() > 1000 || listener.fds_given() > 1000 || !is_name(name) {
         return Ok(());
     }
-    let init = listener.init();
-    let told = at_file(a, c);
-    match name {
-        "t" => show_put(listener.tell(event(init, told, b, false))?, out),
-        "d" => show_put(
-            listener.tell(event(init, on_directory(told), b, false))?,
-            out,
-        ),
-        "m" => show_put(
-            listener.tell(event(init, on_other_mount(told), b, false))?,
-            out,
-        ),
-        "p" => show_put(listener.ask(event(init, told, b, true))?, out),
+    if let Some(happening) = happening(kind, a, c) {
+        return play_event(alloc, listener, happening, name, b, kind == "p", out);
+    }
+    match kind {
         "r" => show_read(listener.read(a), out),
         "w" => show_written(listener.write(&response(a, b)[..8]), out),
         "s" => show_written(listener.write(&response(a, b)[..(c as usize).min(9)]), out),
@@ -189,12 +221,50 @@ fn play_word(listener: &mut Listener, word: &str, out: &mut String) -> Result<()
     }
 }
 
-// What the group is told of a happening, done by a process in its thread with a number 100 greater.
-fn event(init: InitWords, happening: Happening, pid: u32, perm: bool) -> Event
-    ensures { result.perm ≡ perm }
+// What a word lets happen, if it is one of an event.
+fn happening(kind: &str, bits: u32, inode: u32) -> Option<Happening> {
+    let happening = at_file(bits, inode);
+    match kind {
+        "t" | "p" => Some(happening),
+        "d" => Some(on_directory(happening)),
+        "m" => Some(on_other_mount(happening)),
+        "e" => Some(on_entry(happening)),
+        "f" => Some(on_directory(on_entry(happening))),
+        _ => None,
+    }
+}
+
+// Puts an event on the queue that a process makes in its thread with a number 100 greater.
+fn play_event(
+    alloc: Global,
+    listener: &mut Listener,
+    happening: Happening,
+    name: &[u8],
+    pid: u32,
+    perm: bool,
+    out: &mut String,
+) -> Result<(), NoMemory>
+    requires name { IsName name.now }
+    requires entries { listener.old.next_entry ≤ 2 ^ 31 }
 {
+    let init = listener.init();
     let tid = pid.saturating_add(100);
-    event_for(init, &happening, happening.bits, pid, tid, perm)
+    let event = event_for(
+        alloc,
+        init,
+        &happening,
+        name,
+        happening.bits,
+        pid,
+        tid,
+        perm,
+    )?;
+    let put = if perm {
+        listener.ask(event)?
+    } else {
+        listener.tell(event)?
+    };
+    show_put(put, out)
 }
 
 // What happens to a file.
@@ -217,6 +287,18 @@ fn at_file(bits: u32, inode: u32) -> Happening {
 fn on_directory(happening: Happening) -> Happening {
     Happening {
         ondir: true,
+        ..happening
+    }
+}
+
+fn on_entry(happening: Happening) -> Happening {
+    let place = Place {
+        dir: true,
+        ..happening.place
+    };
+    Happening {
+        place,
+        entry: true,
         ..happening
     }
 }
@@ -248,29 +330,59 @@ fn show_put(put: Put, out: &mut String) -> Result<(), NoMemory> {
 
 fn show_read(read: Result<Vec<u8>, ReadRefused>, out: &mut String) -> Result<(), NoMemory> {
     match read {
-        Ok(bytes) => {
-            for record in bytes.chunks(24) {
-                show_record(record, out)?;
-            }
-        }
+        Ok(bytes) => show_records(&bytes, out),
         Err(why) => match why.errno() {
-            Some(errno) => write!(out, "{why:?}:{errno:?}")?,
-            None => return Err(NoMemory),
+            Some(errno) => {
+                write!(out, "{why:?}:{errno:?}")?;
+                Ok(())
+            }
+            None => Err(NoMemory),
         },
+    }
+}
+
+// Records one after the other, each of which begins with its length.
+fn show_records(bytes: &[u8], out: &mut String) -> Result<(), NoMemory> {
+    let mut rest = bytes;
+    for _ in 0..bytes.len() {
+        if rest.is_empty() {
+            break;
+        }
+        if rest.len() < 24 {
+            out.push_str("no record")?;
+            return Ok(());
+        }
+        let len = u32::from_le_bytes([rest[0], rest[1], rest[2], rest[3]]) as usize;
+        if len < 24 || len > rest.len() {
+            out.push_str("no record")?;
+            return Ok(());
+        }
+        show_record(&rest[..len], out)?;
+        rest = &rest[len..];
     }
     Ok(())
 }
 
-// The mask, the descriptor and the process of a record whose other fields are as they should be.
-fn show_record(record: &[u8], out: &mut String) -> Result<(), NoMemory> {
-    if record.len() != 24 || record[..8] != [24, 0, 0, 0, 3, 0, 24, 0] || record[12..16] != [0; 4] {
+// The mask, the descriptor, the process and the information records of a record whose other fields
+// are as they should be.
+fn show_record(event: &[u8], out: &mut String) -> Result<(), NoMemory>
+    requires { 24 ≤ length event.now }
+{
+    if event[4..8] != [3, 0, 24, 0] || event[12..16] != [0; 4] {
         out.push_str("no record")?;
         return Ok(());
     }
-    let mask = u32::from_le_bytes([record[8], record[9], record[10], record[11]]);
-    let fd = i32::from_le_bytes([record[16], record[17], record[18], record[19]]);
-    let pid = u32::from_le_bytes([record[20], record[21], record[22], record[23]]);
-    write!(out, "[{mask} {fd} {pid}]")?;
+    let mask = u32::from_le_bytes([event[8], event[9], event[10], event[11]]);
+    let fd = i32::from_le_bytes([event[16], event[17], event[18], event[19]]);
+    let pid = u32::from_le_bytes([event[20], event[21], event[22], event[23]]);
+    write!(out, "[{mask} {fd} {pid}")?;
+    if event.len() > 24 {
+        out.push(' ')?;
+    }
+    for byte in &event[24..] {
+        write!(out, "{byte:02x}")?;
+    }
+    out.push(']')?;
     Ok(())
 }
 

@@ -10,7 +10,7 @@ loop-index-preserved c =
     let old = c.loop-index.taken in
     let done = c.in_ok-take_entry.ensures in
     let step =
-    front_step c.args.count c.loop-index.index c.args.queue.now.entries entry c.loop-index-test.true
+    front_step c.args.front.count c.loop-index.index c.args.queue.now.entries entry c.loop-index-test.true
     (sym c.in-Some.ensures) in
     let few : c.take_entry.new.taken.next_fd ≤ c.args.first_fd + (c.loop-index.index + 1) =
     omega (arith, done.next, fd_after-le old.next_fd entry.body, c.loop-index.invariant.few) in
@@ -25,12 +25,12 @@ loop-index-preserved c =
 
 pub returns-clause-bytes : goal.returns-clause-bytes
 returns-clause-bytes c =
-    let end = front_end c.loop-index.index c.args.count c.args.queue.now.entries c.loop-index-test.false in
+    let end = front_end c.loop-index.index c.args.front.count c.args.queue.now.entries c.loop-index-test.false in
     sym (append-nil c.loop-index.taken.bytes.items)
     ∙ ap (λ left. c.loop-index.taken.bytes.items ++ records c.loop-index.taken.next_fd left) (sym end)
     ∙ c.loop-index.invariant.bytes
 
 pub returns-clause-next : goal.returns-clause-next
 returns-clause-next c =
-    let end = front_end c.loop-index.index c.args.count c.args.queue.now.entries c.loop-index-test.false in
+    let end = front_end c.loop-index.index c.args.front.count c.args.queue.now.entries c.loop-index-test.false in
     ap (λ left. next_fd_after c.loop-index.taken.next_fd left) (sym end) ∙ c.loop-index.invariant.next

@@ -17,7 +17,7 @@ invariant_of-self-in_default c =
     rw (c.reserve.ensures.same, c.reserve-2.ensures.same)
     (stored-kept c.self.invariant c.put.new.self
     (keeps-put c.self.inside.queue c.put.new.self c.args.event outcome c.in_ok-put.ensures.ok
-    (not_queued outcome c.in_default.not-Queued)))
+    (not_queued outcome _ c.in_default.not-Queued)))
 
 pub returns-in_default : goal.returns-in_default
 returns-in_default c =
@@ -56,7 +56,7 @@ invariant_of-self-2 c =
       c.in_ok-copy.ensures,
       came.0,
       came.1,
-    ) (stored-asked c.self.invariant event c.requires.permission)
+    ) (stored-asked c.self.invariant event c.requires.descriptor c.requires.permission)
 
 pub returns-clause-ok : goal.returns-clause-ok
 returns-clause-ok c =
@@ -67,7 +67,7 @@ returns-clause-ok c =
     let pending : filter (is_read l.next_fd) c.push_reserved.new.self.events
     ≡ filter (is_read l.next_fd) l.asked.events =
     rw (c.push_reserved.ensures, c.reserve.ensures.same, c.in_ok-copy.ensures, came.0)
-    (read-queued c.self.invariant event) in
+    (read-queued c.self.invariant event c.requires.descriptor) in
     let answers : answers_in c.insert_reserved.new.self.entries ≡ answers_in l.rooms.entries =
     rw (c.insert_reserved.ensures.entries, c.reserve-2.ensures.same, came.0)
     (answers_in-insert l.queue.next_entry l.rooms.entries

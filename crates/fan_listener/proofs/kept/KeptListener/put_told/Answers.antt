@@ -12,7 +12,7 @@ invariant_of-self-in_default c =
     let outcome = c.in_ok-put.put in
     stored-kept c.self.invariant c.put.new.self
     (keeps-put c.self.inside.queue c.put.new.self c.args.event outcome c.in_ok-put.ensures.ok
-    (not_queued outcome c.in_default.not-Queued))
+    (not_queued outcome _ c.in_default.not-Queued))
 
 pub returns-in_default : goal.returns-in_default
 returns-in_default c =
@@ -28,7 +28,7 @@ pub invariant_of-self-2 : goal.invariant_of-self-2
 invariant_of-self-2 c =
     let came = queued_as c.self.inside.queue c.put.new.self c.args.event c.in_ok-put.put c.in-Queued.entry
     c.in_ok-put.ensures.ok c.in-Queued.is in
-    rw came.1 (stored-told c.self.invariant c.args.event c.requires.notice)
+    rw came.1 (stored-told c.self.invariant c.args.event c.requires.descriptor c.requires.notice)
 
 pub returns-clause-ok : goal.returns-clause-ok
 returns-clause-ok c =

@@ -9,7 +9,7 @@ use Rattle.fan_listener.proofs.kept.KeptListener.read_front.Goals as goal
 pub invariant_of-self : goal.invariant_of-self
 invariant_of-self c =
     let l = c.self.inside in
-    let count = c.front_len-count.result in
+    let count = c.front_within-front.result.count in
     let front = take count l.queue.entries in
     let dropped = c.drop_front.ensures in
     let short : length front ≤ count = rw length-take (grind (arith, nat_tests)) in
@@ -22,7 +22,7 @@ invariant_of-self c =
       next_fd_after-le l.next_fd front,
       short,
       given,
-      c.front_len-count.ensures.small,
+      c.front_within-front.ensures.small,
       c.ranges.size.fits,
     ) in
     stored-read c.self.invariant c.drop_front.new.queue front (drop count l.queue.entries)
@@ -32,9 +32,9 @@ invariant_of-self c =
 pub returns-clause-ok : goal.returns-clause-ok
 returns-clause-ok c =
     let l = c.self.inside in
-    let count = c.front_len-count.result in
+    let count = c.front_within-front.result.count in
     let front = take count l.queue.entries in
-    let is = c.front_len-count.ensures.front l.queue.entries (sym c.len.ensures.count) in
+    let is = c.front_within-front.ensures.front in
     let dropped = c.drop_front.ensures in
     rw (← c.self.view_is, ← is)
     (read_view _ l.asked.events front (drop count l.queue.entries) c.drop_front.new.queue.entries

@@ -1,7 +1,12 @@
 use Rattle.fan_listener.proofs.Bounds.{makes-tried}
 use Rattle.fan_listener.proofs.kept.KeptListener.tell.Goals as goal
 
-pub returns-clause-moved : goal.returns-clause-moved
-returns-clause-moved c =
+pub returns-then-has_fd-clause-moved : goal.returns-then-has_fd-clause-moved
+returns-then-has_fd-clause-moved c =
     makes-tried c.args.self.now c.put_told.new.self c.args.event c.put_told.result
     c.put_told.ensures.ok c.put_told.ensures.err
+
+pub returns-else-has_fd-clause-moved : goal.returns-else-has_fd-clause-moved
+returns-else-has_fd-clause-moved c =
+    makes-tried c.args.self.now c.put_by_handles.new.self c.args.event c.put_by_handles.result
+    c.put_by_handles.ensures.ok c.put_by_handles.ensures.err
