@@ -23,20 +23,28 @@ pub data Phase : Type 0 where
   Waiting : ℕ → ℕ → ℕ → Phase
   Telling : ℕ → Phase
 
--- an access: what it does and where, the process and thread that do it, the marks as they stood at its begin,
--- all of them, and where it stands
+-- an access: what it does and where, by which name that was reached, the process and thread that do it, the
+-- marks as they stood at its begin, all of them, and where it stands
 pub record AccessState : Type 0 where
   pub op : Op
   pub place : Place
+  pub name : List ℕ
   pub pid : ℕ
   pub tid : ℕ
   pub view : List Mark
   pub phase : Phase
 
 -- an access at its begin
-abbrev pub new_access : Op → Place → ℕ → ℕ → List Mark → AccessState
-new_access op place pid tid view =
-    record { op = op; place = place; pid = pid; tid = tid; view = view; phase = Asking 0 }
+abbrev pub new_access : Op → Place → List ℕ → ℕ → ℕ → List Mark → AccessState
+new_access op place name pid tid view = record {
+  op = op;
+  place = place;
+  name = name;
+  pid = pid;
+  tid = tid;
+  view = view;
+  phase = Asking 0;
+}
 
 -- whom it asks, in order
 abbrev pub asks : AccessState → List Turn
@@ -49,7 +57,7 @@ tells access = turns access.view (told_happenings access.op access.place)
 -- the event of a turn, as a group with these flags is asked or told it
 abbrev pub event_of : Bool → Turn → AccessState → ℕ → Event
 event_of perm turn access flags =
-    event_for flags turn.happening turn.interest.bits access.pid access.tid perm
+    event_for flags turn.happening access.name turn.interest.bits access.pid access.tid perm
 
 -- what one step of an access makes of the listeners and of the access
 pub record Stepped : Type 0 where

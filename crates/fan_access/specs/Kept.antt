@@ -18,6 +18,7 @@ use Rattle.fan_listener.specs.ListenerState.{ListenerState}
 pub record KeptAccess : Type 0 where
   pub op : Op
   pub place : Place
+  pub name : List ℕ
   pub pid : ℕ
   pub tid : ℕ
   pub phase : Phase
@@ -61,6 +62,7 @@ SeesSame marks access =
 pub record IsAccess (marks : List Mark) (kept : KeptAccess) (access : AccessState) : Type 0 where
   pub op : kept.op ≡ access.op
   pub place : kept.place ≡ access.place
+  pub name : kept.name ≡ access.name
   pub pid : kept.pid ≡ access.pid
   pub tid : kept.tid ≡ access.tid
   pub phase : IsPhase access kept.phase

@@ -15,15 +15,17 @@ use crate::outcome::{
 use crate::phase::{Cursor, Phase};
 use crate::turn::{Turn, next_turn};
 use fan_bits::{Connectors, Place, StepOutcome};
+use fan_event::Name;
 use fan_io::NoMemory;
 use std::marker::Model;
 
 /// An access of a file or a directory, from its begin to its end. The marks by which it goes are
 /// handed in at each step: as they stood at its begin, as far as they matter at its place.
-#[derive(Clone, Copy, Debug, PartialEq, Eq)]
+#[derive(Debug, PartialEq, Eq, Drop)]
 pub struct Access {
     op: Op,
     place: Place,
+    name: Name,
     pid: u32,
     tid: u32,
     phase: Phase,
@@ -38,6 +40,7 @@ impl Model for Access {
     ghost view = { λ a. record {
       op = a.op;
       place = a.place;
+      name = a.name;
       pid = a.pid;
       tid = a.tid;
       phase = a.phase;
@@ -48,6 +51,7 @@ impl Model for Access {
     ghost inverse = { λ kept. record {
       op = kept.op;
       place = kept.place;
+      name = kept.name;
       pid = kept.pid;
       tid = kept.tid;
       phase = kept.phase;
@@ -55,16 +59,18 @@ impl Model for Access {
 }
 
 impl Access {
-    /// An access of a place by a process and a thread of it, at its begin.
-    pub fn new(op: Op, place: Place, pid: u32, tid: u32) -> Access
+    /// An access of a place, which was reached by a name, by a process and a thread of it, at its
+    /// begin.
+    pub fn new(op: Op, place: Place, name: Name, pid: u32, tid: u32) -> Access
         requires { IsPlace place }
         ensures begins { (marks view : List Mark) → IsMarkList view
-            → SeesSame marks (new_access op place pid tid view)
-            → IsAccess marks result (new_access op place pid tid view) }
+            → SeesSame marks (new_access op place name pid tid view)
+            → IsAccess marks result (new_access op place name pid tid view) }
     {
         Access {
             op,
             place,
+            name,
             pid,
             tid,
             phase: Phase::Asking {
@@ -188,7 +194,8 @@ impl Access {
             interest,
         } = turn;
         let group = interest.group;
-        let put = listeners.ask(group, &happening, interest.bits, self.pid, self.tid)?;
+        let name = self.name.bytes();
+        let put = listeners.ask(group, &happening, name, interest.bits, self.pid, self.tid)?;
         self.phase = phase_after_ask(behind, group, put);
         Ok(asked_outcome(group, put))
     }
@@ -215,7 +222,8 @@ impl Access {
             interest,
         } = turn;
         let group = interest.group;
-        let put = listeners.tell(group, &happening, interest.bits, self.pid, self.tid)?;
+        let name = self.name.bytes();
+        let put = listeners.tell(group, &happening, name, interest.bits, self.pid, self.tid)?;
         self.phase = Phase::Telling { cursor: behind };
         Ok(told_outcome(group, put))
     }

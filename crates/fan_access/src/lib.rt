@@ -5,7 +5,7 @@
 //! group by them:
 //!
 //! ```
-//! let mut access = Access::new(Op::Opens, place, 41, 41);
+//! let mut access = Access::new(Op::Opens, place, name, 41, 41);
 //! assert_eq!(access.step(&mut marks, &mut groups)?, StepOutcome::Asked(1));
 //! assert_eq!(access.step(&mut marks, &mut groups)?, StepOutcome::Blocked(1));
 //! groups.write(1, &[0, 0, 0, 0, 1, 0, 0, 0])?;

@@ -3,6 +3,7 @@ ghost use Rattle.std.specs.Prelude.{◌≡◌, ◌≤◌, ◌^◌, [], ◌∷◌
 ghost use Rattle.fan_bits.specs.Marks.{IsMarkList, next_on};
 ghost use Rattle.fan_bits.specs.Places.{IsPlace};
 ghost use Rattle.fan_event.specs.Events.{event_for};
+ghost use Rattle.fan_event.specs.Names.{IsName};
 ghost use Rattle.fan_listener.specs.Queue.{put};
 
 use super::*;
@@ -10,8 +11,9 @@ use fan_bits::{
     Class, Connectors, FAN_MODIFY, FAN_ONDIR, FAN_OPEN, FAN_OPEN_PERM, Happening, Kind, Mark,
     Order, Place, init_words,
 };
+use fan_event::{Name, event_for};
 use fan_io::NoMemory;
-use fan_listener::{Answer, Listener, Put, event_for};
+use fan_listener::{Answer, Listener, Put};
 use std::alloc::Global;
 use std::fmt::Write;
 use std::test::Fail;
@@ -88,6 +90,7 @@ fn two_marks() -> TwoMarks
 // The listeners of the two groups.
 #[derive(Drop)]
 struct TwoGroups {
+    alloc: Global,
     first: Listener,
     second: Listener,
 }
@@ -100,13 +103,22 @@ impl Listeners for TwoGroups {
         &mut self,
         group: u32,
         happening: &Happening,
+        name: &[u8],
         bits: u32,
         pid: u32,
         tid: u32,
     ) -> Result<Put, NoMemory> {
         match group {
-            1 => ask(&mut self.first, happening, bits, pid, tid),
-            2 => ask(&mut self.second, happening, bits, pid, tid),
+            1 => ask(self.alloc, &mut self.first, happening, name, bits, pid, tid),
+            2 => ask(
+                self.alloc,
+                &mut self.second,
+                happening,
+                name,
+                bits,
+                pid,
+                tid,
+            ),
             _ => Ok(Put::Closed),
         }
     }
@@ -116,13 +128,22 @@ impl Listeners for TwoGroups {
         &mut self,
         group: u32,
         happening: &Happening,
+        name: &[u8],
         bits: u32,
         pid: u32,
         tid: u32,
     ) -> Result<Put, NoMemory> {
         match group {
-            1 => tell(&mut self.first, happening, bits, pid, tid),
-            2 => tell(&mut self.second, happening, bits, pid, tid),
+            1 => tell(self.alloc, &mut self.first, happening, name, bits, pid, tid),
+            2 => tell(
+                self.alloc,
+                &mut self.second,
+                happening,
+                name,
+                bits,
+                pid,
+                tid,
+            ),
             _ => Ok(Put::Closed),
         }
     }
@@ -141,6 +162,7 @@ impl TwoGroups {
     // Two listeners with two entries at most.
     fn new(alloc: Global) -> Result<TwoGroups, NoMemory> {
         Ok(TwoGroups {
+            alloc,
             first: listener(alloc, FAN_CLASS_CONTENT)?,
             second: listener(alloc, FAN_CLASS_PRE_CONTENT)?,
         })
@@ -174,34 +196,60 @@ fn listener(alloc: Global, class: u32) -> Result<Listener, NoMemory> {
 
 // Puts a permission event on a queue.
 fn ask(
+    alloc: Global,
     listener: &mut Listener,
     happening: &Happening,
+    name: &[u8],
     bits: u32,
     pid: u32,
     tid: u32,
 ) -> Result<Put, NoMemory>
-    requires { listener.old.next_entry ≤ 2 ^ 31 }
+    requires name { IsName name.now }
+    requires entries { listener.old.next_entry ≤ 2 ^ 31 }
     ensures ok { IfOk result (λ outcome. (outcome, listener.new)
-        ≡ put listener.old (event_for listener.old.flags happening.now bits pid tid true)) }
+        ≡ put listener.old (event_for listener.old.flags happening.now name.now bits pid tid true)) }
     ensures err { OnErr result (listener.new ≡ listener.old) }
 {
-    listener.ask(event_for(listener.init(), happening, bits, pid, tid, true))
+    let event = event_for(
+        alloc,
+        listener.init(),
+        happening,
+        name,
+        bits,
+        pid,
+        tid,
+        true,
+    )?;
+    listener.ask(event)
 }
 
 // Puts an event that needs no answer on a queue.
 fn tell(
+    alloc: Global,
     listener: &mut Listener,
     happening: &Happening,
+    name: &[u8],
     bits: u32,
     pid: u32,
     tid: u32,
 ) -> Result<Put, NoMemory>
-    requires { listener.old.next_entry ≤ 2 ^ 31 }
+    requires name { IsName name.now }
+    requires entries { listener.old.next_entry ≤ 2 ^ 31 }
     ensures ok { IfOk result (λ outcome. (outcome, listener.new)
-        ≡ put listener.old (event_for listener.old.flags happening.now bits pid tid false)) }
+        ≡ put listener.old (event_for listener.old.flags happening.now name.now bits pid tid false)) }
     ensures err { OnErr result (listener.new ≡ listener.old) }
 {
-    listener.tell(event_for(listener.init(), happening, bits, pid, tid, false))
+    let event = event_for(
+        alloc,
+        listener.init(),
+        happening,
+        name,
+        bits,
+        pid,
+        tid,
+        false,
+    )?;
+    listener.tell(event)
 }
 
 // A line is a history, ' = ' and the outcomes of its single steps. `open` and `write` begin an
@@ -235,17 +283,27 @@ fn histories_come_out_as_worked_out(rt: HostRuntime) -> Result<(), Fail> {
 fn play(alloc: Global, history: &str) -> Result<String, NoMemory> {
     let mut out = String::new(alloc);
     let mut groups = TwoGroups::new(alloc)?;
-    let mut access = Access::new(Op::Opens, file(), 41, 42);
+    let mut access = at_file(alloc, Op::Opens)?;
     for word in history.split(' ') {
         match word.split_once('.') {
             Some((verdict, group)) => groups.answer_by(verdict, group.parse().unwrap_or(0)),
             None if word == "step" => show_step(&mut access, &mut groups, &mut out)?,
-            None if word == "write" => access = Access::new(Op::Writes, file(), 41, 42),
-            None if word == "list" => access = Access::new(Op::Opens, directory(), 41, 42),
-            None => access = Access::new(Op::Opens, file(), 41, 42),
+            None if word == "write" => access = at_file(alloc, Op::Writes)?,
+            None if word == "list" => access = at_directory(alloc)?,
+            None => access = at_file(alloc, Op::Opens)?,
         }
     }
     Ok(out)
+}
+
+// An access of the file.
+fn at_file(alloc: Global, op: Op) -> Result<Access, NoMemory> {
+    Ok(Access::new(op, file(), Name::of(alloc, b"f")?, 41, 42))
+}
+
+// An access that opens its directory.
+fn at_directory(alloc: Global) -> Result<Access, NoMemory> {
+    Ok(Access::new(Op::Opens, directory(), Name::of(alloc, b".")?, 41, 42))
 }
 
 // The file.

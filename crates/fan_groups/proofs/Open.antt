@@ -1,5 +1,5 @@
 -- What calls of a listener leave of whether it is open, and how many groups are open afterwards.
-use Rattle.std.proofs.Common.{◌≡◌, ℕ, zero, suc, ◌+◌, List, [], ◌∷◌, ◌++◌, Bool, true, false, cond, not, Option, Some, None, Result, Ok, Err, refl, sym, ap, ◌∙◌, arith, set, nat_lt, length, ◌==◌, ◌<◌, get_or}
+use Rattle.std.proofs.Common.{◌≡◌, ℕ, zero, suc, ◌+◌, List, [], ◌∷◌, ◌++◌, Bool, true, false, cond, not, Option, Some, None, Result, Ok, Err, refl, sym, ap, ◌∙◌, arith, set, length, ◌==◌, ◌<◌, get_or}
 use Rattle.std.specs.Prelude.{slice_get, count_by, IfOk, OnErr}
 use Rattle.std.proofs.lemmas.Option.{slice_get-get_or}
 use Rattle.std.proofs.lemmas.List.Sums.{sum_by-append, sum_by-cons}
@@ -13,7 +13,7 @@ use Rattle.fan_listener.specs.Groups.{is_open}
 use Rattle.fan_listener.specs.ListenerState.{ListenerState, new_listener}
 use Rattle.fan_listener.specs.Queue.{put}
 use Rattle.fan_listener.proofs.PutLemmas.{by_put_to}
-use Rattle.fan_listener.specs.Records.{read_of, read_front, record_len}
+use Rattle.fan_listener.specs.Records.{first_is_longer, read_front, read_of}
 use Rattle.fan_listener.specs.Responses.{written, responded, waiting_under, verdict, fd_in, value_in, answer_of, closed_of}
 
 -- a put leaves a listener open or closed
@@ -39,7 +39,7 @@ unfolding read_of read_front
 closed-read_of listener size =
     let P : List ℕ × ListenerState → Type 0 = λ read. read.1.closed ≡ listener.closed in
     either_ok listener.closed _ _ P tt
-    (either_ok (length listener.queue == 0) _ _ P tt (either_ok (nat_lt size record_len) _ _ P tt refl))
+    (either_ok (length listener.queue == 0) _ _ P tt (either_ok (first_is_longer size listener.queue) _ _ P tt refl))
 
 closed-responded : (listener : ListenerState) (fd : ℕ) (given : Option Verdict) (waiting : Option ℕ)
     → IfOk (responded listener fd given waiting) (λ response. response.1.closed ≡ listener.closed)

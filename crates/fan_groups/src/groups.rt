@@ -141,13 +141,23 @@ impl Listeners for Groups {
         &mut self,
         group: u32,
         happening: &Happening,
+        name: &[u8],
         bits: u32,
         pid: u32,
         tid: u32,
     ) -> Result<Put, NoMemory> {
         match index_of(&self.listeners, group) {
             None => Ok(Put::Closed),
-            Some(index) => ask_at(&mut self.listeners, index, happening, bits, pid, tid),
+            Some(index) => ask_at(
+                self.alloc,
+                &mut self.listeners,
+                index,
+                happening,
+                name,
+                bits,
+                pid,
+                tid,
+            ),
         }
     }
 
@@ -156,13 +166,23 @@ impl Listeners for Groups {
         &mut self,
         group: u32,
         happening: &Happening,
+        name: &[u8],
         bits: u32,
         pid: u32,
         tid: u32,
     ) -> Result<Put, NoMemory> {
         match index_of(&self.listeners, group) {
             None => Ok(Put::Closed),
-            Some(index) => tell_at(&mut self.listeners, index, happening, bits, pid, tid),
+            Some(index) => tell_at(
+                self.alloc,
+                &mut self.listeners,
+                index,
+                happening,
+                name,
+                bits,
+                pid,
+                tid,
+            ),
         }
     }
 

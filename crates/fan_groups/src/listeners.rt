@@ -2,6 +2,7 @@
 ghost use Rattle.std.specs.Prelude.{◌≡◌, ◌+◌, ◌-◌, ◌<◌, ◌≤◌, ◌^◌, ◌++◌, ℕ, Ok, Err, Some, None, true, false, length, slice_get, slice_set, IfOk, IfErr, IfSome, IfNone, IsOk, OnErr, count_by};
 ghost use Rattle.fan_groups.specs.Bounds.{AreBounded};
 ghost use Rattle.fan_event.specs.Events.{event_for};
+ghost use Rattle.fan_event.specs.Names.{IsName};
 ghost use Rattle.fan_listener.specs.Groups.{called_at, is_open, listener_at, open_listener, tried_at};
 ghost use Rattle.fan_listener.specs.Queue.{put};
 ghost use Rattle.fan_listener.specs.Records.{read_of};
@@ -9,8 +10,10 @@ ghost use Rattle.fan_listener.specs.Refusals.{read_errno};
 ghost use Rattle.fan_listener.specs.Responses.{answer_of, closed_of, written};
 
 use fan_bits::{Errno, Happening};
+use fan_event::event_for;
 use fan_io::NoMemory;
-use fan_listener::{Answer, Answered, Listener, Put, ReadRefused, event_for};
+use fan_listener::{Answer, Answered, Listener, Put, ReadRefused};
+use std::alloc::Global;
 
 /// The index of a group's listener.
 pub(crate) fn index_of(listeners: &[Listener], group: u32) -> Option<usize>
@@ -96,47 +99,55 @@ pub(crate) fn write_at(
 
 /// Puts a permission event on the queue of the listener at an index.
 pub(crate) fn ask_at(
+    alloc: Global,
     listeners: &mut Vec<Listener>,
     index: usize,
     happening: &Happening,
+    name: &[u8],
     bits: u32,
     pid: u32,
     tid: u32,
 ) -> Result<Put, NoMemory>
+    requires name { IsName name.now }
     requires within { index < length listeners.old.items }
     requires entries { IfSome (slice_get listeners.old.items index)
         (λ listener. listener.next_entry ≤ 2 ^ 31) }
     ensures ok { IfOk result (λ outcome. (outcome, listeners.new.items) ≡ called_at Put.Closed
-        (λ listener. put listener (event_for listener.flags happening.now bits pid tid true))
+        (λ listener. put listener (event_for listener.flags happening.now name.now bits pid tid true))
         listeners.old.items (index + 1) (slice_get listeners.old.items index)) }
     ensures err { OnErr result (listeners.new.items ≡ listeners.old.items) }
     ensures count { count_by is_open listeners.new.items ≡ count_by is_open listeners.old.items }
 {
     let listener = &mut listeners[index];
-    let event = event_for(listener.init(), happening, bits, pid, tid, true);
+    let init = listener.init();
+    let event = event_for(alloc, init, happening, name, bits, pid, tid, true)?;
     listener.ask(event)
 }
 
 /// Puts an event that needs no answer on the queue of the listener at an index.
 pub(crate) fn tell_at(
+    alloc: Global,
     listeners: &mut Vec<Listener>,
     index: usize,
     happening: &Happening,
+    name: &[u8],
     bits: u32,
     pid: u32,
     tid: u32,
 ) -> Result<Put, NoMemory>
+    requires name { IsName name.now }
     requires within { index < length listeners.old.items }
     requires entries { IfSome (slice_get listeners.old.items index)
         (λ listener. listener.next_entry ≤ 2 ^ 31) }
     ensures ok { IfOk result (λ outcome. (outcome, listeners.new.items) ≡ called_at Put.Closed
-        (λ listener. put listener (event_for listener.flags happening.now bits pid tid false))
+        (λ listener. put listener (event_for listener.flags happening.now name.now bits pid tid false))
         listeners.old.items (index + 1) (slice_get listeners.old.items index)) }
     ensures err { OnErr result (listeners.new.items ≡ listeners.old.items) }
     ensures count { count_by is_open listeners.new.items ≡ count_by is_open listeners.old.items }
 {
     let listener = &mut listeners[index];
-    let event = event_for(listener.init(), happening, bits, pid, tid, false);
+    let init = listener.init();
+    let event = event_for(alloc, init, happening, name, bits, pid, tid, false)?;
     listener.tell(event)
 }
 

@@ -1,5 +1,5 @@
 -- `begin` and `step`: how an access begins, and its single steps.
-use Rattle.std.specs.Prelude.{ℕ, Bool, false, not, nat_lt, List, [], ◌∷◌, Option, Some, None, if◌then◌else◌}
+use Rattle.std.specs.Prelude.{ℕ, Bool, false, not, nat_lt, List, [], ◌∷◌, Option, Some, None, is_some, reverse, if◌then◌else◌}
 use Rattle.std.specs.BTreeMap.{insert_entry, is_at}
 use Rattle.std.specs.Map.{lookup, remove_entry, set_value}
 use Rattle.std.specs.Ordering.{nat_cmp}
@@ -11,9 +11,12 @@ use Rattle.fan_bits.specs.declared.change.Change.TheVariants.{Clear}
 use Rattle.fan_bits.specs.declared.errno.Errno.TheVariants as errno
 use Rattle.fan_bits.specs.declared.place.Place.{Place}
 use Rattle.fan_bits.specs.Outcomes.{ends_access}
+use Rattle.fan_event.specs.Events.{dot}
+use Rattle.fan_event.specs.Names.{is_name}
 use Rattle.fan_machine.specs.Files.{place_in}
 use Rattle.fan_machine.specs.Outcome.{Attempt, answers, refuse_unless, found_or, ◌>>=◌}
 use Rattle.fan_machine.specs.World.{WorldState, with_change}
+use Rattle.fan_mounts.specs.Reaches.{names_of}
 use Rattle.fan_script.specs.declared.reply.Reply.TheVariants as replies
 use Rattle.fan_script.specs.declared.step.OpWord.{OpWord}
 use Rattle.fan_script.specs.declared.step.OpWord.TheVariants as words
@@ -39,11 +42,21 @@ abbrev pub with_change_if : Option Change → WorldState → WorldState
 with_change_if None world = world
 with_change_if (Some change) world = with_change change world
 
+-- the last of some names, given from the last on, and `.` if there is none
+abbrev pub last_name : List (List ℕ) → List ℕ
+last_name [] = dot
+last_name (last ∷ before) = last
+
+-- the name by which a path reaches a place: its last one, and `.` for a root
+abbrev pub name_by : List ℕ → Place → List ℕ
+name_by path place = if is_some place.parent then last_name (reverse (names_of path)) else dot
+
 -- an access at its begin: it goes by the marks as they stand
-abbrev pub new_access : Op → Place → ℕ → ℕ → WorldState → AccessState
-new_access op place pid tid world = record {
+abbrev pub new_access : Op → Place → List ℕ → ℕ → ℕ → WorldState → AccessState
+new_access op place name pid tid world = record {
   op = op;
   place = place;
+  name = name;
   pid = pid;
   tid = tid;
   view = world.marks;
@@ -59,20 +72,21 @@ abbrev pub with_access : ℕ → AccessState → WorldState → WorldState
 with_access number access world = record world { accesses = insert_entry nat_cmp world.accesses number access }
 
 -- an access begins: its number is used, a write empties ignored sets, and then it takes its view of the marks
-abbrev pub begins : ℕ → Op → Place → ℕ → ℕ → WorldState → WorldState
-begins number op place pid tid world =
+abbrev pub begins : ℕ → Op → Place → List ℕ → ℕ → ℕ → WorldState → WorldState
+begins number op place name pid tid world =
     let changed = with_change_if (first_change op place) (record world { last_access = number }) in
-    with_access number (new_access op place pid tid changed) changed
+    with_access number (new_access op place name pid tid changed) changed
 
 -- `begin`: EINVAL for an operation that isn't built yet, EEXIST if the number isn't above all before it, the walk,
--- EISDIR for a write to a directory
+-- EISDIR for a write to a directory, EINVAL for a path whose last name is none, as no line has it
 unfoldable pub begun : WorldState → ℕ → ℕ → ℕ → OpWord → List ℕ → Attempt
 begun world number pid tid word path = do
   op ← found_or errno.Einval (op_of word)
   free ← refuse_unless (nat_lt world.last_access number) errno.Eexist
   place ← place_in world path
   placed ← refuse_unless (not (is_misplaced op place)) errno.Eisdir
-  answers replies.Done (begins number op place pid tid world)
+  named ← refuse_unless (is_name (name_by path place)) errno.Einval
+  answers replies.Done (begins number op place (name_by path place) pid tid world)
 
 -- an access that is finished is open no more, and any other goes on
 abbrev pub accesses_after : ℕ → Stepped → List (ℕ × AccessState) → List (ℕ × AccessState)

@@ -1,5 +1,5 @@
 -- `grace`: retired marks are reclaimed in batches, once no access is open that was open when the batch started.
-use Rattle.std.specs.Prelude.{ℕ, Bool, List, [], ◌∷◌, Option, Some, None, length, is_some, if◌then◌else◌}
+use Rattle.std.specs.Prelude.{Bool, List, [], Option, Some, None, length, is_some, if◌then◌else◌}
 use Rattle.std.specs.List.{list_any}
 use Rattle.std.specs.Map.{keys_of}
 use Rattle.fan_machine.specs.Accesses.{access_of}

@@ -1,12 +1,12 @@
 -- Steps that change the file tree and its mounts: mknod(2), mkdir(2), mount(2), umount(2).
-use Rattle.std.specs.Prelude.{ℕ, ◌==◌, Bool, not, List, [], ◌∷◌, Option, Some, None, Result, Ok, Err, is_some, reverse}
+use Rattle.std.specs.Prelude.{ℕ, ◌==◌, Bool, not, List, [], ◌∷◌, Result, Err, is_some, reverse}
 use Rattle.std.specs.List.{list_any}
 use Rattle.fan_access.specs.Access.{AccessState}
 use Rattle.fan_bits.specs.declared.change.Change.TheVariants.{DropObject}
 use Rattle.fan_bits.specs.declared.errno.Errno.{Errno}
 use Rattle.fan_bits.specs.declared.errno.Errno.TheVariants as errno
 use Rattle.fan_bits.specs.declared.place.Place.{Place}
-use Rattle.fan_machine.specs.Outcome.{Attempt, answers, refuse_unless, found_or, ◌>>=◌}
+use Rattle.fan_machine.specs.Outcome.{Attempt, answers, refuse_unless, ◌>>=◌}
 use Rattle.fan_machine.specs.World.{WorldState, with_change}
 use Rattle.fan_mounts.specs.Mounts.{mounted, unmounted, is_mount_root}
 use Rattle.fan_mounts.specs.Reaches.{names_of, place_of, reached}

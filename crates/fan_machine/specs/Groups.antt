@@ -1,8 +1,8 @@
 -- Steps of groups and their listeners: fanotify_init(2), read(2), write(2), close(2).
-use Rattle.std.specs.Prelude.{ℕ, ◌+◌, ◌&&◌, not, nat_le, nat_lt, List, [], ◌∷◌, ◌++◌, length, count_by}
+use Rattle.std.specs.Prelude.{ℕ, ◌+◌, ◌&&◌, nat_le, nat_lt, List, [], ◌∷◌, ◌++◌, length, count_by}
 use Rattle.fan_bits.specs.declared.change.Change.TheVariants.{DropGroup}
 use Rattle.fan_bits.specs.declared.errno.Errno.TheVariants as errno
-use Rattle.fan_bits.specs.Words.{is_init_flags, has_handles}
+use Rattle.fan_bits.specs.Words.{is_init_flags}
 use Rattle.fan_listener.specs.Groups.{closed_in, is_open, read_from, written_to}
 use Rattle.fan_listener.specs.ListenerState.{new_listener}
 use Rattle.fan_machine.specs.Outcome.{Attempt, answers, refuse_unless, found_or, ◌>>=◌}
@@ -19,10 +19,10 @@ limit_set world entries = do
   valid ← refuse_unless (nat_le 1 entries && nat_le entries max_limit) errno.Einval
   answers replies.Done (record world { limit = entries })
 
--- `init`: EINVAL if the flags are no word, or ask for handles, which aren't built yet; EMFILE if 128 groups are open
+-- `init`: EINVAL if the flags are no word, EMFILE if 128 groups are open
 unfoldable pub group_made : WorldState → ℕ → Attempt
 group_made world flags = do
-  valid ← refuse_unless (is_init_flags flags && not (has_handles flags)) errno.Einval
+  valid ← refuse_unless (is_init_flags flags) errno.Einval
   few ← refuse_unless (nat_lt (count_by is_open world.groups) max_open_groups) errno.Emfile
   answers
       (replies.Group (length world.groups + 1))

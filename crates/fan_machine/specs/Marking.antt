@@ -1,5 +1,5 @@
 -- `mark`: fanotify_mark(2).
-use Rattle.std.specs.Prelude.{ℕ, ◌||◌, Bool, true, false, not, List, Result, Ok, Err, if◌then◌else◌}
+use Rattle.std.specs.Prelude.{ℕ, ◌||◌, Bool, true, false, not, List, Result, Ok, if◌then◌else◌}
 use Rattle.fan_bits.specs.declared.change.Change.{Change}
 use Rattle.fan_bits.specs.declared.change.Change.TheVariants.{Put, Flush}
 use Rattle.fan_bits.specs.declared.errno.Errno.{Errno}

@@ -149,9 +149,9 @@ const BUILT: [(&str, bool); 21] = [
     ("limit 1", true),
     ("init 0", true),
     ("init fffff1ff", true),
-    ("init 200", false),
-    ("init 400", false),
-    ("init 800", false),
+    ("init 200", true),
+    ("init 400", true),
+    ("init 800", true),
     ("mark 1 0 0 /a", true),
     ("mark 1 ffffff1d 0 /a", true),
     ("mark 1 2 0 /a", true),
@@ -257,7 +257,7 @@ fn names_and_responses_have_limits(rt: HostRuntime) -> Result<(), Fail> {
 }
 
 #[test]
-fn steps_are_built_by_their_flags(rt: HostRuntime) -> Result<(), Fail> {
+fn steps_are_built_by_their_operation(rt: HostRuntime) -> Result<(), Fail> {
     for (bytes, wanted) in BUILT {
         let found = is_built(rt.alloc(), bytes);
         assert_eq!(rt; found, wanted, "{bytes}");

@@ -8,6 +8,7 @@ returns c = record {
   begins = λ marks view is_list sees. record {
     op = refl;
     place = refl;
+    name = refl;
     pid = refl;
     tid = refl;
     phase = (0, refl, sym (turns_behind-start view (asked_happenings c.args.op c.args.place) is_list));
