@@ -1,15 +1,19 @@
--- Entries by the number that they lead to, and lists with one element more.
-use Rattle.std.proofs.Common.{◌≡◌, ◌∙◌, ℕ, ◌<◌, Bool, true, false, cond, List, [], ◌∷◌, ◌++◌, Option, Some, None, All, refl, ap, sym, arith, append_assoc}
-use Rattle.std.specs.Prelude.{Err, Ok, OnErr, OnOk, Result, find, nat_le, option_map}
+-- One entry more or less among those of all directories: where it stands by the numbers, and what is found.
+use Rattle.std.proofs.Common.{◌≡◌, ◌∙◌, ℕ, ◌==◌, Bool, true, false, cond, List, ◌++◌, Option, Some, None, All, refl, ap, sym, arith, append_assoc}
+use Rattle.std.specs.List.{AllPairs}
+use Rattle.std.specs.Prelude.{Err, Ok, OnErr, OnOk, Result, filter, find, not, option_map}
 use Rattle.std.specs.Cmp.Lexicographic.{bytes_decides}
-use Rattle.std.specs.Option.{option_or}
 use Rattle.std.specs.Str.{bytes_eq}
-use Rattle.std.proofs.lemmas.Bool.{and_parts}
+use Rattle.std.proofs.lemmas.Bool.{and_parts, false_from_ne_true}
+use Rattle.std.proofs.lemmas.List.Elements.{All-weaker}
 use Rattle.std.proofs.lemmas.Bool.Decides.{nat_tests}
-use Rattle.std.proofs.lemmas.List.Elements.{All-cons, All-head, All-tail}
-use Rattle.std.proofs.lemmas.List.Folds.{find-append}
-use Rattle.fan_tree.specs.Names.{Adds, AreFound, Dirs, NamesOne, NamesSame, by_inode, in_order, placed}
+use Rattle.fan_tree.specs.Names.{Adds, AreFound, Dirs, NamesOne, NamesSame, all_entries, by_inode, in_order, number_in, placed}
 use Rattle.fan_tree.specs.Tree.{DirEntry, is_named}
+use Rattle.fan_tree.specs.Whole.{AreApart, LeadsBelow}
+use Rattle.fan_tree.proofs.Lists.{All-front}
+use Rattle.fan_lists.proofs.Filters.{filter_all}
+use Rattle.fan_lists.proofs.Finds.{find_none}
+use Rattle.fan_tree.proofs.Order.{All-by_inode, LeadsElsewhere, by_inode-among, elsewhere_among, filter-placed, find-placed, placed_elsewhere, placed_others}
 
 -- one element more behind other elements, and before others
 pub adds_behind : {X : Type 0} (front old new : List X) (one : X)
@@ -30,110 +34,152 @@ adds_before back old new one adds = record {
   is = rw (adds.is, append_assoc) refl;
 }
 
--- what holds of entries at their places holds of each of them
-All-placed : (P : DirEntry → Type 0) (entry : DirEntry) (entries : List DirEntry)
-    → All P (placed entry entries) → All P entries
-All-placed P entry [] each = All-tail P entry [] each
-All-placed P entry (first ∷ more) each =
-    (elim (nat_le entry.inode first.inode) as (λ before.
-    All P (cond before (entry ∷ first ∷ more) (first ∷ placed entry more)) → All P (first ∷ more)) [
-      | true ↦ λ all. All-tail P entry (first ∷ more) all
-      | false ↦ λ all.
-          All-cons P first more (All-head P first (placed entry more) all)
-          (All-placed P entry more (All-tail P first (placed entry more) all))
-    ]) each
-
--- an entry whose number is above all others comes last
-placed_last : (entry : DirEntry) (entries : List DirEntry)
-    → All (λ one. one.inode < entry.inode) entries → placed entry entries ≡ entries ++ entry ∷ []
-placed_last entry [] below = refl
-placed_last entry (first ∷ more) below =
-    let P : DirEntry → Type 0 = λ one. one.inode < entry.inode in
-    let here = All-head P first more below in
-    let fails : nat_le entry.inode first.inode ≡ false = grind (arith, nat_tests, here) in
-    rw fails (ap (λ rest. first ∷ rest) (placed_last entry more (All-tail P first more below)))
-
--- and stays last as another comes before it
-placed_before : (entry last : DirEntry) (entries : List DirEntry)
-    → entry.inode < last.inode → placed entry (entries ++ last ∷ []) ≡ placed entry entries ++ last ∷ []
-placed_before entry last [] below =
-    let passes : nat_le entry.inode last.inode ≡ true = grind (arith, nat_tests, below) in rw passes refl
-placed_before entry last (first ∷ more) below =
-    elim (nat_le entry.inode first.inode) as (λ before.
-    cond before (entry ∷ first ∷ more ++ last ∷ []) (first ∷ placed entry (more ++ last ∷ []))
-    ≡ cond before (entry ∷ first ∷ more) (first ∷ placed entry more) ++ last ∷ []) [
-      | true ↦ refl
-      | false ↦ ap (λ rest. first ∷ rest) (placed_before entry last more below)
-    ]
-
-All-placed_one : (P : DirEntry → Type 0) (entry : DirEntry) (entries : List DirEntry)
-    → All P (placed entry entries) → P entry
-All-placed_one P entry [] each = All-head P entry [] each
-All-placed_one P entry (first ∷ more) each =
-    (elim (nat_le entry.inode first.inode) as (λ before.
-    All P (cond before (entry ∷ first ∷ more) (first ∷ placed entry more)) → P entry) [
-      | true ↦ λ all. All-head P entry (first ∷ more) all
-      | false ↦ λ all. All-placed_one P entry more (All-tail P first (placed entry more) all)
-    ]) each
-
--- wherever such an entry stands, it comes last by the numbers
-last_in : (before behind : List DirEntry) (last : DirEntry)
-    → All (λ one. one.inode < last.inode) (by_inode (before ++ behind))
-    → by_inode (before ++ last ∷ behind) ≡ by_inode (before ++ behind) ++ last ∷ []
-last_in [] behind last below = placed_last last (by_inode behind) below
-last_in (first ∷ before) behind last below =
-    let P : DirEntry → Type 0 = λ one. one.inode < last.inode in
-    let rest = by_inode (before ++ behind) in
-    ap (λ all. placed first all) (last_in before behind last (All-placed P first rest below))
-    ∙ placed_before first last rest (All-placed_one P first rest below)
-
--- a new entry is the last one
+-- an entry more comes to its place among those that lead to other inodes
 pub order_one : (old new : Dirs) (entry : DirEntry)
-    → NamesOne old new entry → All (λ one. one.inode < entry.inode) (in_order old)
-    → in_order new ≡ in_order old ++ entry ∷ []
-order_one old new entry adds below =
+    → NamesOne old new entry → All (LeadsElsewhere entry) (in_order old)
+    → in_order new ≡ placed entry (in_order old)
+order_one old new entry adds differ =
     let parts = adds.entries in
-    let same = ap by_inode parts.was in
-    let P : List DirEntry → Type 0 = λ all. All (λ one. one.inode < entry.inode) all in
+    let each = All-by_inode (LeadsElsewhere entry) (all_entries old) differ in
+    let before = All-front (LeadsElsewhere entry) parts.before parts.behind (rw parts.was at each) in
     ap by_inode parts.is
-    ∙ last_in parts.before parts.behind entry (rw same at below)
-    ∙ ap (λ all. all ++ entry ∷ []) (sym same)
+    ∙ by_inode-among parts.before parts.behind entry before
+    ∙ ap (λ all. placed entry (by_inode all)) (sym parts.was)
 
--- the number of what is found with one entry more
-number_after : (found : Option DirEntry) (here : Bool) (entry : DirEntry)
-    → (here ≡ true → found ≡ None)
+-- and it comes there if the numbers rise
+pub order_rises : (old new : Dirs) (entry : DirEntry)
+    → NamesOne old new entry → AllPairs LeadsBelow (in_order new)
+    → in_order new ≡ placed entry (in_order old)
+order_rises old new entry adds rises =
+    let parts = adds.entries in
+    let same = ap by_inode parts.is in
+    let before = elsewhere_among parts.before parts.behind entry (rw same at rises) in
+    same
+    ∙ by_inode-among parts.before parts.behind entry before
+    ∙ ap (λ all. placed entry (by_inode all)) (sym parts.was)
+
+-- the number of what is found, or else of one entry
+number_or : (found : Option DirEntry) (here : Bool) (entry : DirEntry)
     → cond here (Some entry.inode) (option_map (λ one. one.inode) found)
-    ≡ option_map (λ one. one.inode) (option_or found (cond here (Some entry) None))
-number_after None true entry free = refl
-number_after None false entry free = refl
-number_after (Some other) true entry free = absurd (let none = free refl in cc)
-number_after (Some other) false entry free = refl
+    ≡ option_map (λ one. one.inode) (cond here (Some entry) found)
+number_or found true entry = refl
+number_or found false entry = refl
+
+-- an entry with a name has it
+pub named_is : (entry : DirEntry) (dir : ℕ) (name : List ℕ)
+    → is_named dir name entry ≡ true → (entry.dir ≡ dir) × (entry.name ≡ name)
+named_is entry dir name here =
+    let parts = and_parts _ (bytes_eq entry.name name) here in
+    (grind (arith, nat_tests, parts.0), (bytes_decides entry.name name).0 parts.1)
+
+-- and its own name too
+pub named_itself : (entry : DirEntry) → is_named entry.dir entry.name entry ≡ true
+named_itself entry =
+    let here : (entry.dir == entry.dir) ≡ true = grind (arith, nat_tests) in
+    rw (here, (bytes_decides entry.name entry.name).1 refl) refl
 
 -- no other entry has the name of one whose name was free
-free_at : (entries : List DirEntry) (entry : DirEntry) (dir : ℕ) (name : List ℕ)
+pub free_at : (entries : List DirEntry) (entry : DirEntry) (dir : ℕ) (name : List ℕ)
     → find (is_named entry.dir entry.name) entries ≡ None
     → is_named dir name entry ≡ true → find (is_named dir name) entries ≡ None
 free_at entries entry dir name free here =
-    let parts = and_parts _ (bytes_eq entry.name name) here in
-    let same_dir : entry.dir ≡ dir = grind (arith, nat_tests, parts.0) in
-    let same_name : entry.name ≡ name = (bytes_decides entry.name name).0 parts.1 in
-    rw (← same_dir, ← same_name) free
+    let same = named_is entry dir name here in rw (← same.0, ← same.1) free
 
 -- a new entry is looked up as it is found
 pub found_one : (old new : Dirs) (entry : DirEntry)
-    → AreFound old → NamesOne old new entry → in_order new ≡ in_order old ++ entry ∷ []
+    → AreFound old → NamesOne old new entry → in_order new ≡ placed entry (in_order old)
     → find (is_named entry.dir entry.name) (in_order old) ≡ None → AreFound new
 found_one old new entry was adds order free = record {
   found = λ dir name.
-      let here = is_named dir name entry in
-      let before = find (is_named dir name) (in_order old) in
+      let named = is_named dir name in
       adds.numbers dir name
-      ∙ ap (λ number. cond here (Some entry.inode) number) (was.found dir name)
-      ∙ number_after before here entry (free_at (in_order old) entry dir name free)
-      ∙ ap (λ one. option_map (λ (e : DirEntry). e.inode) one)
-      (sym (find-append (is_named dir name) (in_order old) (entry ∷ [])))
-      ∙ ap (λ all. option_map (λ (e : DirEntry). e.inode) (find (is_named dir name) all)) (sym order);
+      ∙ ap (λ number. cond (named entry) (Some entry.inode) number) (was.found dir name)
+      ∙ number_or (find named (in_order old)) (named entry) entry
+      ∙ ap (option_map (λ (e : DirEntry). e.inode))
+      (sym (find-placed named entry (in_order old) (free_at (in_order old) entry dir name free)))
+      ∙ ap (λ all. option_map (λ (e : DirEntry). e.inode) (find named all)) (sym order);
 }
+
+-- where entries are apart, no other has the name of one
+pub others_unnamed : (entry : DirEntry) (entries : List DirEntry)
+    → AllPairs AreApart (placed entry entries)
+    → All (λ other. is_named entry.dir entry.name other ≡ false) entries
+others_unnamed entry entries apart =
+    placed_others AreApart (λ other. is_named entry.dir entry.name other ≡ false) entry entries
+    (λ other differ. false_from_ne_true _ (λ same. let is = named_is other entry.dir entry.name same in
+    differ (sym is.0) (sym is.1)))
+    (λ other differ. false_from_ne_true _ (λ same. let is = named_is other entry.dir entry.name same in
+    differ is.0 is.1))
+    apart
+
+-- an entry less: the others stay in their order
+pub order_less : (old new : Dirs) (entry : DirEntry)
+    → NamesOne new old entry → AllPairs LeadsBelow (in_order old) → AllPairs AreApart (in_order old)
+    → in_order new ≡ filter (λ one. not (is_named entry.dir entry.name one)) (in_order old)
+order_less old new entry adds rises apart =
+    let kept : DirEntry → Bool = λ one. not (is_named entry.dir entry.name one) in
+    let order = order_rises new old entry adds rises in
+    let others = others_unnamed entry (in_order new) (rw order at apart) in
+    let passes = All-weaker (λ other. is_named entry.dir entry.name other ≡ false) (λ other. kept other ≡ true)
+    (λ other fails. ap not fails) (in_order new) others in
+    sym (ap (filter kept) order ∙ filter-placed kept entry (in_order new) (ap not (named_itself entry))
+    ∙ filter_all kept (in_order new) passes)
+
+-- and they are looked up as they are found
+pub found_less : (old new : Dirs) (entry : DirEntry)
+    → AreFound old → NamesOne new old entry → number_in new entry.dir entry.name ≡ None
+    → AllPairs LeadsBelow (in_order old) → AllPairs AreApart (in_order old) → AreFound new
+found_less old new entry was adds gone rises apart = record {
+  found = λ dir name. by dir name (is_named dir name entry) refl (was.found dir name) (adds.numbers dir name);
+}
+  where
+    number : Option DirEntry → Option ℕ
+    number found = option_map (λ (e : DirEntry). e.inode) found
+
+    order : in_order old ≡ placed entry (in_order new)
+    order = order_rises new old entry adds rises
+
+    by : (dir : ℕ) (name : List ℕ) (here : Bool) → is_named dir name entry ≡ here
+        → number_in old dir name ≡ option_map (λ (e : DirEntry). e.inode) (find (is_named dir name) (in_order old))
+        → number_in old dir name ≡ cond (is_named dir name entry) (Some entry.inode) (number_in new dir name)
+        → number_in new dir name ≡ option_map (λ (e : DirEntry). e.inode) (find (is_named dir name) (in_order new))
+    by dir name true is found one =
+        let same = named_is entry dir name is in
+        let others = find_none (is_named entry.dir entry.name) (in_order new)
+        (others_unnamed entry (in_order new) (rw order at apart)) in
+        rw (free_at (in_order new) entry dir name others is) (rw (same.0, same.1) at gone)
+    by dir name false is found one =
+        let placed_so = find-placed (is_named dir name) entry (in_order new)
+        (λ passes. absurd (let wrong = rw is at passes in cc)) in
+        let now = rw is at one in
+        let found_now = rw (order, placed_so, is) at found in
+        sym now ∙ found_now
+
+-- the entries after one was taken: all others, looked up as they are found
+pub record AreLess (old new : Dirs) (entry : DirEntry) : Type 0 where
+  pub was : in_order old ≡ placed entry (in_order new)
+  pub differ : All (LeadsElsewhere entry) (in_order new)
+  pub order : in_order new ≡ filter (λ one. not (is_named entry.dir entry.name one)) (in_order old)
+  pub found : AreFound new
+
+pub are_less : (old new : Dirs) (entry : DirEntry)
+    → AreFound old → NamesOne new old entry → number_in new entry.dir entry.name ≡ None
+    → AllPairs LeadsBelow (in_order old) → AllPairs AreApart (in_order old) → AreLess old new entry
+are_less old new entry found adds gone rises apart =
+    let was = order_rises new old entry adds rises in
+    record {
+      was = was;
+      differ = placed_elsewhere entry (in_order new) (rw was at rises);
+      order = order_less old new entry adds rises apart;
+      found = found_less old new entry found adds gone rises apart;
+    }
+
+-- a name leads to the number of its entry
+pub leads_so : (dirs : Dirs) (entry : DirEntry)
+    → AreFound dirs → find (is_named entry.dir entry.name) (in_order dirs) ≡ Some entry
+    → number_in dirs entry.dir entry.name ≡ Some entry.inode
+leads_so dirs entry found there =
+    found.found entry.dir entry.name ∙ ap (option_map (λ (e : DirEntry). e.inode)) there
 
 -- the same entries are looked up as they are found
 pub found_same : (old new : Dirs) → AreFound old → NamesSame old new → AreFound new

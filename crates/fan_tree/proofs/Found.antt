@@ -1,9 +1,9 @@
 -- What is found in a tree: inodes, by their number, by a name that leads to them, and as roots.
-use Rattle.std.proofs.Common.{◌≡◌, ◌≢◌, ◌∙◌, ℕ, ◌+◌, ◌<◌, ◌≤◌, ◌==◌, ◌&&◌, Bool, true, false, cond, List, [], ◌∷◌, Option, Some, None, refl, sym, ap, arith}
+use Rattle.std.proofs.Common.{◌≡◌, ◌≢◌, ◌∙◌, ℕ, ◌+◌, ◌<◌, ◌≤◌, ◌==◌, ◌&&◌, Bool, true, false, cond, List, [], ◌∷◌, Option, Some, None, All, get_or, refl, sym, ap, arith}
 use Rattle.std.specs.Prelude.{find, option_map}
 use Rattle.std.specs.List.{AllPairs}
 use Rattle.std.proofs.lemmas.Bool.Decides.{nat_tests}
-use Rattle.std.proofs.lemmas.List.Elements.{All-weaker}
+use Rattle.std.proofs.lemmas.List.Elements.{All-cons, All-nil, All-weaker}
 use Rattle.fan_tree.specs.declared.inode.About.{About}
 use Rattle.fan_tree.specs.Tree.{DirEntry, Inode, TreeState, about_of, entry_of, inode_of, is_named, is_root, led_to, root_of}
 use Rattle.fan_tree.specs.Whole.{IsBelow, IsEntry, IsInode, IsTree}
@@ -37,6 +37,25 @@ found_by_number test (first ∷ more) found rises is =
           let differs : has_number found.number first ≡ false = grind (arith, nat_tests) in
           rw differs (found_by_number test more found rest same)
     ]) is
+
+-- each inode is found by its number
+pub each_found : (inodes : List Inode)
+    → AllPairs IsBelow inodes → All (λ inode. find (has_number inode.number) inodes ≡ Some inode) inodes
+each_found [] rises = All-nil (λ (inode : Inode). find (has_number inode.number) [] ≡ Some inode)
+each_found (first ∷ more) rises =
+    let rest = each_found more (AllPairs-tail IsBelow first more rises) in
+    let below = AllPairs-head IsBelow first more rises in
+    All-cons (λ inode. find (has_number inode.number) (first ∷ more) ≡ Some inode) first more (here first more)
+    (λ k d within. behind first (get_or more k d) more (below k d within) (rest k d within))
+  where
+    here : (first : Inode) (more : List Inode) → find (has_number first.number) (first ∷ more) ≡ Some first
+    here first more = let passes : has_number first.number first ≡ true = grind (arith, nat_tests) in rw passes refl
+
+    behind : (first inode : Inode) (more : List Inode) → first.number < inode.number
+        → find (has_number inode.number) more ≡ Some inode
+        → find (has_number inode.number) (first ∷ more) ≡ Some inode
+    behind first inode more below found =
+        let differs : has_number inode.number first ≡ false = grind (arith, nat_tests, below) in rw differs found
 
 -- what is found by a number has it
 pub inode_of_number : (tree : TreeState) (number : ℕ) (inode : Inode)

@@ -1,14 +1,17 @@
 -- Whatever is made of a tree is a tree, and its names are unique. For callers too.
-use Rattle.std.proofs.Common.{◌≡◌, ◌∙◌, ℕ, ◌+◌, Bool, true, false, cond, List, Option, Some, None, refl, sym, arith, get_or, ltb, inl, inr}
+use Rattle.std.proofs.Common.{◌≡◌, ◌∙◌, ℕ, ◌+◌, Bool, true, false, cond, List, [], ◌∷◌, Option, Some, None, refl, sym, arith, get_or, ltb, inl, inr}
+use Rattle.std.specs.List.{AllPairs}
 use Rattle.std.specs.Prelude.{Contains, Err, IfOk, IfSome, Ok, Result}
 use Rattle.std.proofs.lemmas.Bool.{cases_order}
 use Rattle.std.proofs.lemmas.Bool.Decides.{nat_tests}
 use Rattle.std.proofs.lemmas.List.{get_or_default}
+use Rattle.std.proofs.lemmas.List.Elements.{All-cons, All-nil}
+use Rattle.fan_lists.proofs.Pairs.{AllPairs-nil}
 use Rattle.fan_bits.specs.declared.errno.Errno.TheVariants as errno
 use Rattle.fan_bits.specs.declared.errno.Errno.{Errno}
 use Rattle.fan_bits.specs.Places.{IsObject}
-use Rattle.fan_tree.specs.Tree.{DirEntry, TreeState, drawn, made, made_fs, max_object, with_fs}
-use Rattle.fan_tree.specs.Whole.{IsTree}
+use Rattle.fan_tree.specs.Tree.{DirEntry, TreeState, drawn, initial_tree, made, made_fs, max_object, root_inode, with_fs}
+use Rattle.fan_tree.specs.Whole.{AreApart, IsBelow, IsEntry, IsInode, IsRooted, IsTree, LeadsBelow}
 use Rattle.fan_tree.proofs.Making.{made_ok}
 use Rattle.fan_tree.proofs.Whole.{added_is, later_is, with_fs_is}
 
@@ -22,6 +25,30 @@ pub if_some : {A : Type 0} (P : A → Type 0) (found : Option A)
     → ((done : A) → found ≡ Some done → P done) → IfSome found P
 if_some P (Some done) each = each done refl
 if_some P None each = tt
+
+-- the first tree has one inode, and no entry
+pub initial_is : IsTree initial_tree
+initial_is = record {
+  each = All-cons (IsInode 4) (root_inode 1) []
+      (record {
+        number = (omega arith, omega arith);
+        drawn = omega arith;
+        fs = (omega arith, omega arith);
+        after = omega arith;
+        root = λ is. refl;
+      })
+      (All-nil (IsInode 4));
+  rises = AllPairs-one IsBelow (root_inode 1);
+  entries = All-nil (IsEntry initial_tree);
+  unique = AllPairs-nil AreApart;
+  one_name = AllPairs-nil LeadsBelow;
+  rooted = All-cons (IsRooted initial_tree) (root_inode 1) [] (0, refl) (All-nil (IsRooted initial_tree));
+  some = omega arith;
+  most = omega arith;
+}
+  where
+    AllPairs-one : {X : Type 0} (R : X → X → Type 0) (x : X) → AllPairs R (x ∷ [])
+    AllPairs-one R x = λ i j d before within. absurd (omega (arith, before, within))
 
 -- an entry that is made leaves a tree
 pub made_keeps : (tree : TreeState) (dir : ℕ) (name : List ℕ) (is_dir : Bool) (done : ℕ × TreeState)

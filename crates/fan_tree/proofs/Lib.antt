@@ -1,8 +1,15 @@
+pub mod Above
 pub mod Dirs
 pub mod Entries
 pub mod Found
+pub mod Keeping
 pub mod Kept
 pub mod Lists
 pub mod Making
+pub mod Moves
+pub mod Moving
+pub mod Order
+pub mod Removing
 pub mod Slots
+pub mod Upward
 pub mod Whole

@@ -10,7 +10,8 @@ use Rattle.fan_tree.specs.Tree.{Inode, TreeState, about_of, entry_of, inode_of, 
 use Rattle.fan_tree.specs.Whole.{IsTree}
 use Rattle.fan_tree.proofs.Found.{inode_of_number, no_name}
 
-none_from_is_some : {X : Type 0} (found : Option X) → is_some found ≡ false → found ≡ None
+-- what is not there is nothing
+pub none_from_is_some : {X : Type 0} (found : Option X) → is_some found ≡ false → found ≡ None
 none_from_is_some None is = refl
 none_from_is_some (Some x) is = absurd (cc)
 

@@ -1,3 +1,5 @@
+pub mod Ancestors
+pub mod Changes
 pub mod Inodes
 pub mod Names
 pub mod Steps

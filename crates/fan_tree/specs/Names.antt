@@ -1,8 +1,9 @@
 -- How the names of a tree are kept. No public clause cites this.
-use Rattle.std.specs.Prelude.{◌≡◌, ℕ, ◌+◌, List, [], ◌∷◌, ◌++◌, Option, Some, find, map, nat_le, option_map, slice_index_or, if◌then◌else◌}
+use Rattle.std.specs.Prelude.{◌≡◌, ℕ, ◌+◌, List, [], ◌∷◌, ◌++◌, Option, Some, None, find, map, nat_le, option_map, slice_index_or, if◌then◌else◌}
 use Rattle.std.specs.Global.{Vec}
 use Rattle.std.specs.Map.{lookup}
 use Rattle.std.specs.Str.{bytes_eq}
+use Rattle.fan_tree.specs.Ancestors.{leads_to}
 use Rattle.fan_tree.specs.Tree.{DirEntry, is_named}
 
 -- the names in a directory, each with the number of the inode that it leads to
@@ -44,12 +45,12 @@ placed entry [] = entry ∷ []
 placed entry (first ∷ more) =
     if nat_le entry.inode first.inode then entry ∷ first ∷ more else first ∷ placed entry more
 
--- entries by the number that they lead to, which is the order in which they were made
+-- entries by the number that they lead to
 abbrev pub by_inode : List DirEntry → List DirEntry
 by_inode [] = []
 by_inode (entry ∷ more) = placed entry (by_inode more)
 
--- the entries of all directories in the order in which they were made
+-- the entries of all directories by the number that they lead to
 abbrev pub in_order : Dirs → List DirEntry
 in_order dirs = by_inode (all_entries dirs)
 
@@ -75,3 +76,20 @@ pub record NamesOne (old new : Dirs) (entry : DirEntry) : Type 0 where
   pub entries : Adds (all_entries old) (all_entries new) entry
   pub numbers : (dir : ℕ) (name : List ℕ)
       → number_in new dir name ≡ (if is_named dir name entry then Some entry.inode else number_in old dir name)
+
+-- one entry in the place of another: it comes first, and then the other goes
+pub record NamesMoved (old new : Dirs) (from into : DirEntry) : Type 0 where
+  pub between : Dirs
+  pub comes : NamesOne old between into
+  pub goes : NamesOne new between from
+  pub gone : number_in new from.dir from.name ≡ None
+
+-- the directory of each inode's entry stands at the inode's number
+pub record AreParents (parents : List (Option ℕ)) (names : List DirEntry) : Type 0 where
+  pub found : (number : ℕ)
+      → slice_index_or parents number None ≡ option_map (λ entry. entry.dir) (find (leads_to number) names)
+
+-- what holds of the names as they are kept
+pub record AreKept (dirs : Dirs) (parents : List (Option ℕ)) : Type 0 where
+  pub names : AreFound dirs
+  pub up : AreParents parents (in_order dirs)

@@ -19,8 +19,8 @@ pub record DirEntry : Type 0 where
   pub name : List ℕ
   pub inode : ℕ
 
--- the inodes of all filesystems by rising number, the entries of all directories in the order in which they
--- were made, and the number that the next object gets; a filesystem is there if its root is
+-- the inodes of all filesystems by rising number, the entries of all directories by the numbers of the inodes
+-- that they lead to, and the number that the next object gets; a filesystem is there if its root is
 pub record TreeState : Type 0 where
   pub inodes : List Inode
   pub names : List DirEntry

@@ -1,5 +1,5 @@
 // The names in one directory, found in logarithmic time.
-ghost use Rattle.std.specs.Prelude.{◌≡◌, ◌∷◌, [], None, OnErr, OnOk};
+ghost use Rattle.std.specs.Prelude.{◌≡◌, ◌∷◌, ◌↔◌, [], None, IfNone, IfSome, IsTrue, OnErr, OnOk};
 ghost use Rattle.fan_tree.specs.Names.{Adds, number_of};
 
 use fan_io::NoMemory;
@@ -38,6 +38,13 @@ impl Dir {
         self.numbers.get(name).copied()
     }
 
+    /// Whether the directory has no name.
+    pub(crate) fn is_empty(&self) -> bool
+        ensures { IsTrue result ↔ (self.now ≡ []) }
+    {
+        self.numbers.is_empty()
+    }
+
     /// Adds a name.
     pub(crate) fn insert(&mut self, name: Vec<u8>, number: u32) -> Result<(), NoMemory>
         requires { number_of self.old name.items ≡ None }
@@ -46,5 +53,15 @@ impl Dir {
     {
         self.numbers.insert(name, number)?;
         Ok(())
+    }
+
+    /// Takes a name away, and gives the number that it led to; None exactly if the directory has no such name.
+    pub(crate) fn remove(&mut self, name: &[u8]) -> Option<u32>
+        ensures value { result ≡ number_of self.old name.now }
+        ensures some { IfSome result (λ number. Adds self.new self.old (name.now, number)) }
+        ensures gone { number_of self.new name.now ≡ None }
+        ensures none { IfNone result (self.new ≡ self.old) }
+    {
+        self.numbers.remove(name)
     }
 }

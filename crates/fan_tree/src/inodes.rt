@@ -1,5 +1,5 @@
 // The inodes by their numbers, each found at once.
-ghost use Rattle.std.specs.Prelude.{◌≡◌, ◌<◌, ◌≤◌, ◌==◌, ◌∷◌, ◌++◌, [], All, OnErr, OnOk, find, option_map};
+ghost use Rattle.std.specs.Prelude.{◌≡◌, ◌≢◌, ◌<◌, ◌≤◌, ◌==◌, ◌∷◌, ◌++◌, [], All, IsSome, OnErr, OnOk, filter, find, not, option_map};
 ghost use Rattle.fan_tree.specs.Inodes.{inode_at};
 ghost use Rattle.fan_tree.specs.Tree.{about_of, root_inode};
 
@@ -73,5 +73,15 @@ impl Inodes {
         ensures { self.new.inodes ≡ self.old.inodes ++ inode_at number about ∷ [] }
     {
         self.slots[(number - FIRST_SLOT) as usize] = Some(about);
+    }
+
+    /// Takes an inode away, which isn't the root of filesystem 1.
+    pub(crate) fn remove(&mut self, number: u32)
+        requires other { number ≢ 2 }
+        requires there { IsSome (find (λ inode. inode.number == number) self.old.inodes) }
+        ensures { self.new.inodes
+            ≡ filter (λ inode. not (inode.number == number)) self.old.inodes }
+    {
+        self.slots[(number - FIRST_SLOT) as usize] = None;
     }
 }

@@ -99,3 +99,104 @@ fn a_directory_has_many_entries(rt: HostRuntime) -> Result<(), Fail> {
     assert_eq!(rt; tree.child(4, 6u32.to_le_bytes().as_slice()), None);
     Ok(())
 }
+
+#[test]
+fn a_removed_name_leads_nowhere_and_its_number_is_not_given_again(
+    rt: HostRuntime,
+) -> Result<(), Fail> {
+    let mut tree = small_tree(rt.alloc())?;
+    assert_eq!(rt; tree.remove(4, b"f".as_slice()), Ok(5));
+    assert_eq!(rt; tree.child(4, b"f".as_slice()), None);
+    assert_eq!(rt; tree.about(5), None);
+    assert_eq!(rt; tree.make(4, b"f".as_slice(), true), Ok(6));
+    assert_eq!(rt; tree.remove(4, b"f".as_slice()), Ok(6));
+    assert_eq!(rt; tree.remove(2, b"d".as_slice()), Ok(4));
+    assert_eq!(rt;
+        tree.make(4, b"f".as_slice(), true),
+        Err(TreeRefused::No(Errno::Enoent))
+    );
+    Ok(())
+}
+
+#[test]
+fn a_directory_with_entries_stays(rt: HostRuntime) -> Result<(), Fail> {
+    let mut tree = small_tree(rt.alloc())?;
+    assert_eq!(rt; tree.remove(2, b"d".as_slice()), Err(Errno::Enotempty));
+    assert_eq!(rt; tree.remove(2, b"f".as_slice()), Err(Errno::Enoent));
+    assert_eq!(rt; tree.remove(3, b"f".as_slice()), Err(Errno::Enoent));
+    assert_eq!(rt; tree.child(2, b"d".as_slice()), Some(4));
+    for (inode, has) in [(2, true), (4, true), (5, false), (6, false)] {
+        assert_eq!(rt; tree.has_entries(inode), has);
+    }
+    assert_eq!(rt; tree.remove(4, b"f".as_slice()), Ok(5));
+    assert_eq!(rt; tree.has_entries(4), false);
+    Ok(())
+}
+
+#[test]
+fn a_renamed_file_keeps_its_number(rt: HostRuntime) -> Result<(), Fail> {
+    let mut tree = small_tree(rt.alloc())?;
+    assert_eq!(rt; tree.rename(4, b"f".as_slice(), 2, b"g".as_slice()), Ok(5));
+    assert_eq!(rt; tree.child(4, b"f".as_slice()), None);
+    assert_eq!(rt; tree.child(2, b"g".as_slice()), Some(5));
+    assert_eq!(rt;
+        (tree.parent(5), tree.parent(4), tree.parent(2)),
+        (Some(2), Some(2), None)
+    );
+    assert_eq!(rt; (tree.has_entries(4), tree.has_entries(2)), (false, true));
+    assert_eq!(rt; tree.rename(2, b"d".as_slice(), 2, b"e".as_slice()), Ok(4));
+    assert_eq!(rt; tree.rename(2, b"g".as_slice(), 4, b"f".as_slice()), Ok(5));
+    assert_eq!(rt; tree.child(2, b"e".as_slice()), Some(4));
+    assert_eq!(rt; tree.child(4, b"f".as_slice()), Some(5));
+    assert_eq!(rt; tree.remove(4, b"f".as_slice()), Ok(5));
+    assert_eq!(rt; tree.make(2, b"d".as_slice(), true), Ok(6));
+    Ok(())
+}
+
+// A tree with the directories `a`, 6, `a/b`, 7, and `a/b/c`, 8.
+fn deep_tree(alloc: Global) -> Result<Tree, TreeRefused> {
+    let mut tree = small_tree(alloc)?;
+    tree.make(2, b"a".as_slice(), true)?;
+    tree.make(6, b"b".as_slice(), true)?;
+    tree.make(7, b"c".as_slice(), true)?;
+    Ok(tree)
+}
+
+#[test]
+fn a_directory_does_not_go_below_itself(rt: HostRuntime) -> Result<(), Fail> {
+    let mut tree = deep_tree(rt.alloc())?;
+    let below = Err(TreeRefused::No(Errno::Einval));
+    for to in [6, 7, 8] {
+        assert_eq!(rt; tree.rename(2, b"a".as_slice(), to, b"x".as_slice()), below);
+    }
+    assert_eq!(rt; tree.rename(7, b"c".as_slice(), 2, b"c".as_slice()), Ok(8));
+    assert_eq!(rt; tree.rename(2, b"a".as_slice(), 8, b"a".as_slice()), Ok(6));
+    assert_eq!(rt; tree.rename(2, b"c".as_slice(), 7, b"c".as_slice()), below);
+    assert_eq!(rt; tree.rename(2, b"d".as_slice(), 7, b"d".as_slice()), Ok(4));
+    assert_eq!(rt; tree.child(4, b"f".as_slice()), Some(5));
+    Ok(())
+}
+
+#[test]
+fn a_refused_rename_changes_nothing(rt: HostRuntime) -> Result<(), Fail> {
+    let mut tree = small_tree(rt.alloc())?;
+    assert_eq!(rt; tree.make_fs(), Ok(6));
+    for (dir, name, to, new_name, why) in [
+        (2, b"f".as_slice(), 2, b"g".as_slice(), Errno::Enoent),
+        (2, b"d".as_slice(), 3, b"g".as_slice(), Errno::Enoent),
+        (2, b"d".as_slice(), 5, b"g".as_slice(), Errno::Enotdir),
+        (4, b"f".as_slice(), 7, b"d".as_slice(), Errno::Exdev),
+        (4, b"f".as_slice(), 2, b"d".as_slice(), Errno::Eexist),
+        (4, b"f".as_slice(), 4, b"f".as_slice(), Errno::Eexist),
+        (2, b"d".as_slice(), 4, b"f".as_slice(), Errno::Eexist),
+        (2, b"d".as_slice(), 4, b"g".as_slice(), Errno::Einval),
+    ] {
+        assert_eq!(rt;
+            tree.rename(dir, name, to, new_name),
+            Err(TreeRefused::No(why))
+        );
+    }
+    assert_eq!(rt; tree.child(2, b"d".as_slice()), Some(4));
+    assert_eq!(rt; tree.child(4, b"f".as_slice()), Some(5));
+    Ok(())
+}

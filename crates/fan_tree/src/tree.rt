@@ -19,9 +19,9 @@ const MAX_OBJECT: u32 = 65_535;
 /// All files and directories.
 #[derive(Drop)]
 pub struct Tree {
-    inodes: Inodes,
-    names: Names,
-    next: u32,
+    pub(crate) inodes: Inodes,
+    pub(crate) names: Names,
+    pub(crate) next: u32,
 }
 
 impl Model for Tree {
