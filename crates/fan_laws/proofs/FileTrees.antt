@@ -1,7 +1,7 @@
 -- The file tree and its mounts, whatever steps come.
 use Rattle.std.proofs.Common.{◌≡◌, ℕ, ◌+◌, ◌<◌, ◌≤◌, Bool, true, false, cond, List, [], ◌∷◌, Option, Some, None, Result, Ok, Err, refl, subst, arith, not}
 use Rattle.std.proofs.lemmas.Bool.{cond_both}
-use Rattle.std.proofs.lemmas.List.Elements.{All-cons, All-nil, All-weaker}
+use Rattle.std.proofs.lemmas.List.Elements.{All-weaker}
 use Rattle.std.specs.Prelude.{IfOk, is_none, is_some, nat_lt}
 use Rattle.fan_bits.specs.declared.errno.Errno.{Errno}
 use Rattle.fan_bits.specs.declared.errno.Errno.TheVariants as errno
@@ -13,9 +13,9 @@ use Rattle.fan_mounts.specs.declared.mount.Mount.{Mount}
 use Rattle.fan_mounts.specs.Mounts.{is_mount_root, mounted, with_mount}
 use Rattle.fan_mounts.proofs.Rising.{AreOf, initial_of, mounted_keeps, unmounted_keeps}
 use Rattle.fan_script.specs.declared.step.Step.{Step}
-use Rattle.fan_tree.specs.Tree.{Inode, TreeState, drawn, entry_of, initial_tree, inode_of, made, made_fs, made_in, max_object, root_inode, root_of, with_entry, with_fs}
-use Rattle.fan_tree.specs.Whole.{IsEntry, IsInode, IsTree}
-use Rattle.fan_tree.proofs.Kept.{drawn_keeps, made_fs_keeps, made_keeps}
+use Rattle.fan_tree.specs.Tree.{Inode, TreeState, drawn, entry_of, inode_of, made, made_fs, made_in, max_object, root_of, with_entry, with_fs}
+use Rattle.fan_tree.specs.Whole.{IsTree}
+use Rattle.fan_tree.proofs.Kept.{drawn_keeps, initial_is, made_fs_keeps, made_keeps}
 use Rattle.fan_laws.proofs.Forms.{Form, dir_made, file_made, fs_was_made, step_form, was_mounted, was_unmounted}
 
 -- the numbers of mounts were drawn from a tree, and so from one that draws later numbers
@@ -107,25 +107,6 @@ files_form world step outcome (was_unmounted path at left unused is) files = rec
   mounts = unmounted_keeps world.tree world.mounts left at.mount files.mounts is;
 }
 files_form world step outcome form files = record { tree = files.tree; mounts = files.mounts }
-
--- the first tree has one inode and no entry
-initial_is : IsTree initial_tree
-initial_is = record {
-  each = All-cons (IsInode 4) (root_inode 1) []
-      (record {
-        number = (omega arith, omega arith);
-        drawn = omega arith;
-        fs = (omega arith, omega arith);
-        after = omega arith;
-        root = λ is. refl;
-      })
-      (All-nil (IsInode 4));
-  rises = λ i j d before within. absurd (omega (arith, before, within));
-  entries = All-nil (IsEntry initial_tree);
-  unique = λ i j d before within. absurd (omega (arith, before, within));
-  some = omega arith;
-  most = omega arith;
-}
 
 files_after : (steps : List Step) (world : WorldState) → AreFiles world → AreFiles (after world steps)
 files_after [] world files = files

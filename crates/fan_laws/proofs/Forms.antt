@@ -4,7 +4,7 @@ use Rattle.std.specs.Prelude.{IfOk, length, not, count_by, nat_lt, reverse}
 use Rattle.std.specs.List.{list_any}
 use Rattle.std.specs.BTreeMap.{insert_entry}
 use Rattle.std.specs.Ordering.{nat_cmp}
-use Rattle.fan_access.specs.Access.{AccessState, Asking, Stepped, access_step}
+use Rattle.fan_access.specs.Access.{AccessState, Stepped, access_step, new_access}
 use Rattle.fan_access.specs.declared.op.Op.{Op}
 use Rattle.fan_bits.specs.declared.change.Change.{Change}
 use Rattle.fan_bits.specs.declared.change.Change.TheVariants.{DropGroup, DropObject}
@@ -15,7 +15,7 @@ use Rattle.fan_bits.specs.Marks.{changed, retired}
 use Rattle.fan_listener.specs.Groups.{closed_in, is_open, read_from, written_to}
 use Rattle.fan_listener.specs.ListenerState.{ListenerState, new_listener}
 use Rattle.fan_listener.specs.declared.answers.Answered.{Answered}
-use Rattle.fan_machine.specs.Accesses.{accesses_after, access_of, advanced, begins, begun, first_change, op_of}
+use Rattle.fan_machine.specs.Accesses.{accesses_after, access_of, advanced, begins, begun, first_change, name_by, op_of}
 use Rattle.fan_machine.specs.Batches.{batch_of, graced, held, reclaimed, started}
 use Rattle.fan_machine.specs.Files.{entry_made, fs_made, fs_mounted, fs_unmounted, goes_through, made_by, place_in}
 use Rattle.fan_machine.specs.Groups.{group_closed, group_made, group_read, group_written, limit_set, max_open_groups}
@@ -53,25 +53,23 @@ waiting_after None last marks waiting = waiting
 waiting_after (Some change) last marks waiting = waiting ++ retired_now last (retired marks change)
 
 -- the world after the begin of an access, part by part
-abbrev pub world_begun : ℕ → Op → Place → ℕ → ℕ → WorldState → WorldState
-world_begun number op place pid tid world =
+abbrev pub world_begun : ℕ → Op → Place → List ℕ → ℕ → ℕ → WorldState → WorldState
+world_begun number op place name pid tid world =
     let change = first_change op place in
     let marks = marks_after change world.marks in
-    let access : AccessState =
-    record { op = op; place = place; pid = pid; tid = tid; view = marks; phase = Asking 0 } in
     record world {
       marks = marks;
       waiting = waiting_after change number world.marks world.waiting;
-      accesses = insert_entry nat_cmp world.accesses number access;
+      accesses = insert_entry nat_cmp world.accesses number (new_access op place name pid tid marks);
       last_access = number;
     }
 
-begins_parts : (number : ℕ) (op : Op) (place : Place) (pid tid : ℕ) (world : WorldState)
+begins_parts : (number : ℕ) (op : Op) (place : Place) (name : List ℕ) (pid tid : ℕ) (world : WorldState)
     (change : Option Change)
     → first_change op place ≡ change
-    → world_begun number op place pid tid world ≡ begins number op place pid tid world
-begins_parts number op place pid tid world None is = rw is refl
-begins_parts number op place pid tid world (Some change) is = rw is refl
+    → world_begun number op place name pid tid world ≡ begins number op place name pid tid world
+begins_parts number op place name pid tid world None is = rw is refl
+begins_parts number op place name pid tid world (Some change) is = rw is refl
 
 -- what waits once a grace went on with a batch, or started one
 abbrev pub waiting_beside : Option Batch → List RetiredMark → List RetiredMark
@@ -128,7 +126,7 @@ pub data Form (world : WorldState) : Step → Outcome → Type 0 where
       (place : Place)
       → op_of word ≡ Some op → nat_lt world.last_access number ≡ true → place_in world path ≡ Ok place
       → Form world (steps.Begin number pid tid word path second) (told replies.Done
-      (world_begun number op place pid tid world))
+      (world_begun number op place (name_by path place) pid tid world))
   has_stepped : (number : ℕ) (access : AccessState) → access_of world number ≡ Some access
       → Form world (steps.Advance number)
       (told (replies.Out ((access_step world.groups access).outcome ∷ []))
@@ -189,9 +187,9 @@ begin_form : (world : WorldState) (number pid tid : ℕ) (word : OpWord) (path :
     (op : Op) (place : Place) → op_of word ≡ Some op → nat_lt world.last_access number ≡ true
     → place_in world path ≡ Ok place
     → Form world (steps.Begin number pid tid word path second) (told replies.Done
-    (begins number op place pid tid world))
+    (begins number op place (name_by path place) pid tid world))
 begin_form world number pid tid word path second op place does free here =
-    let same = begins_parts number op place pid tid world (first_change op place) refl in
+    let same = begins_parts number op place (name_by path place) pid tid world (first_change op place) refl in
     subst (λ new. Form world (steps.Begin number pid tid word path second) (told replies.Done new)) same
     (has_begun number pid tid word path second op place does free here)
 

@@ -6,7 +6,7 @@ use Rattle.std.proofs.lemmas.List.Elements.{All-cons, All-drop, All-nil, All-pus
 use Rattle.std.proofs.lemmas.List.Kept.{AllPairs-cons}
 use Rattle.std.proofs.lemmas.List.Sums.{sum_by-append}
 use Rattle.std.specs.List.{AllPairs}
-use Rattle.std.specs.Prelude.{◌==◌, All, count_by, nat_lt, slice_get}
+use Rattle.std.specs.Prelude.{◌==◌, All, count_by, slice_get}
 use Rattle.fan_bits.specs.declared.class.Class.{Class}
 use Rattle.fan_bits.specs.declared.errno.Errno.{Errno}
 use Rattle.fan_bits.specs.declared.errno.Errno.TheVariants as errno
@@ -26,7 +26,7 @@ use Rattle.fan_listener.specs.ListenerState.{ListenerState, new_listener}
 use Rattle.fan_listener.specs.Queue.{queue_of, with_queue}
 use Rattle.fan_listener.proofs.PutLemmas.{by_put_to}
 use Rattle.fan_queue.specs.Queue.{merged, queued, takes}
-use Rattle.fan_listener.specs.Records.{front_read, front_within, read_front, read_of, record_len}
+use Rattle.fan_listener.specs.Records.{front_read, front_within, read_front, read_of}
 use Rattle.fan_listener.specs.Responses.{answer_of, answered, closed_of, fd_in, responded, value_in, verdict, waiting_under, written}
 use Rattle.fan_machine.specs.Groups.{max_open_groups}
 use Rattle.fan_laws.specs.Whole.{IsOpenOf, IsQueue, numbers_in}
@@ -165,7 +165,7 @@ module _ (P : ListenerState → Type 0) (old : ListenerState) (kept : Kept P old
       by_put_to (λ r. P r.1) old event (λ closed. kept.same) (λ entry opened. kept.same)
       (λ opened. kept.longer Lost) (λ entry opened plain. kept.joined event) (λ opened. kept.longer (Told event))
   called_kept new (read_some size given is) =
-      read_by old.closed (length old.queue == 0) (nat_lt size record_len) size given is
+      read_by old.closed (length old.queue == 0) _ size given is
   called_kept new (wrote bytes given is) =
       written_by old.closed (not (length bytes == 8)) (fd_in bytes) (verdict (value_in bytes))
       (waiting_under (fd_in bytes) old.pending) given is

@@ -15,7 +15,7 @@ use Rattle.fan_bits.specs.declared.place.Place.{Place}
 use Rattle.fan_bits.specs.declared.mark.Mark.{Mark}
 use Rattle.fan_bits.specs.Marks.{changed}
 use Rattle.fan_bits.specs.Outcomes.{ends_access, settles}
-use Rattle.fan_machine.specs.Accesses.{access_of, first_change, op_of}
+use Rattle.fan_machine.specs.Accesses.{access_of, first_change, name_by, op_of}
 use Rattle.fan_machine.specs.Files.{place_in}
 use Rattle.fan_machine.specs.Next.{after, next}
 use Rattle.fan_machine.specs.Outcome.{Outcome}
@@ -141,7 +141,7 @@ module _ (number : ℕ) (access : AccessState) where
   turned_form phase world step outcome
       (has_begun other pid tid word path second op place does free here) numbered used steady found =
       let above : world.last_access < other = ltb-true world.last_access other free in
-      stays phase (world_begun other op place pid tid world) steady
+      stays phase (world_begun other op place (name_by path place) pid tid world) steady
       (other_inserted number other _ world.accesses (λ same. omega arith) ∙ found)
   turned_form phase world step outcome (has_stepped other its is) numbered used steady found =
       turned_stepped phase other its world numbered steady found is
@@ -200,17 +200,17 @@ module _ (number : ℕ) (access : AccessState) where
       (omega (arith, used, rises)) steady_left found_left)
 
 -- a begin that was done made the world so, by a number above all before it
-record HasBegun (world : WorldState) (number pid tid : ℕ) (op : Op) (place : Place)
+record HasBegun (world : WorldState) (number pid tid : ℕ) (op : Op) (place : Place) (name : List ℕ)
     (new : WorldState) : Type 0 where
   above : world.last_access < number
-  is : new ≡ world_begun number op place pid tid world
+  is : new ≡ world_begun number op place name pid tid world
 
 begun_form : (world : WorldState) (number pid tid : ℕ) (word : OpWord) (path : List ℕ) (second : Option
     (List ℕ))
     (op : Op) (place : Place) (outcome : Outcome) → Form world
     (steps.Begin number pid tid word path second) outcome
     → outcome.reply ≡ replies.Done → op_of word ≡ Some op → place_in world path ≡ Ok place
-    → HasBegun world number pid tid op place outcome.world
+    → HasBegun world number pid tid op place (name_by path place) outcome.world
 begun_form world number pid tid word path second op place outcome
     (refused _ errno is) done does here = absurd cc
 begun_form world number pid tid word path second op place outcome
@@ -220,11 +220,18 @@ begun_form world number pid tid word path second op place outcome
     record { above = ltb-true world.last_access number free; is = rw (same, at_place) refl }
 
 begun_is : (world : WorldState) (number : ℕ) (begin : Begin world number)
-    → HasBegun world number begin.pid begin.tid begin.op begin.place (begun_world world number begin)
+    → HasBegun world number begin.pid begin.tid begin.op begin.place (name_by begin.path begin.place)
+    (begun_world world number begin)
 begun_is world number begin =
     let step = steps.Begin number begin.pid begin.tid begin.word begin.path begin.second in
     begun_form world number begin.pid begin.tid begin.word begin.path begin.second begin.op begin.place
     (next world step) (step_form world step) begin.done begin.does begin.here
+
+-- the access that begins is there after it
+pub found_begun : (world : WorldState) (number : ℕ) (begin : Begin world number)
+    → access_of (begun_world world number begin) number ≡ Some (begun_access world number begin)
+found_begun world number begin =
+    rw ((begun_is world number begin).is) (found_inserted number _ world.accesses)
 
 -- from its begin on an access does what is ahead of it
 pub runs_begun : (world : WorldState) (number : ℕ) (begin : Begin world number) (later : List Step)
@@ -236,12 +243,10 @@ runs_begun world number begin later numbered =
     let step = steps.Begin number begin.pid begin.tid begin.word begin.path begin.second in
     let begun = begun_is world number begin in
     let new = begun_world world number begin in
-    let made = world_begun number begin.op begin.place begin.pid begin.tid world in
     let used : number ≤ new.last_access = rw (begun.is) (omega arith) in
-    let found : access_of new number ≡ Some (begun_access world number begin) =
-    rw (begun.is) (found_inserted number _ world.accesses) in
     runs number (begun_access world number begin) later (Asking 0) new
-    (numbered_form world step (next world step) (step_form world step) numbered) used tt found
+    (numbered_form world step (next world step) (step_form world step) numbered) used tt
+    (found_begun world number begin)
 
 marks_by : (change : Option Change) (old new : List Mark) → new ≡ marks_after change old
     → MatchOption change (new ≡ old) (λ change. new ≡ changed old change)

@@ -21,7 +21,7 @@ use Rattle.fan_lists.proofs.Pairs.{AllPairs-map}
 use Rattle.fan_listener.specs.Groups.{is_open}
 use Rattle.fan_listener.specs.ListenerState.{ListenerState, new_listener}
 use Rattle.fan_listener.specs.Responses.{closed_of}
-use Rattle.fan_machine.specs.Accesses.{first_change}
+use Rattle.fan_machine.specs.Accesses.{first_change, name_by}
 use Rattle.fan_machine.specs.Files.{goes_through}
 use Rattle.fan_machine.specs.Groups.{max_open_groups}
 use Rattle.fan_machine.specs.Next.{after, next}
@@ -225,7 +225,7 @@ accesses_form world step outcome (was_unmounted path at left unused is) sound =
     (rw (unmounted_stay world.mounts left at.mount is e.1.place.mount differs) its.mounted)
 accesses_form world step outcome (has_begun number pid tid word path second op place does free here) sound =
     let form = has_begun number pid tid word path second op place does free here in
-    let new = world_begun number op place pid tid world in
+    let new = world_begun number op place (name_by path place) pid tid world in
     let marks = marks_form world step (record { reply = outcome.reply; world = new }) form sound.marks in
     let few = sound.few in
     let asked = few_asked world.groups new.marks marks.of_groups op place in

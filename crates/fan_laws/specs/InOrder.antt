@@ -6,7 +6,7 @@ use Rattle.fan_access.specs.declared.turn.Turn.{Turn}
 use Rattle.fan_bits.specs.declared.outcome.StepOutcome.{StepOutcome}
 use Rattle.fan_bits.specs.declared.place.Place.{Place}
 use Rattle.fan_bits.specs.Outcomes.{asked_by, is_denial, settles, told_by}
-use Rattle.fan_machine.specs.Accesses.{new_access, op_of}
+use Rattle.fan_machine.specs.Accesses.{name_by, new_access, op_of}
 use Rattle.fan_machine.specs.Next.{next}
 use Rattle.fan_machine.specs.World.{WorldState}
 use Rattle.fan_mounts.specs.Reaches.{Reaches}
@@ -34,10 +34,12 @@ abbrev pub begun_world : (world : WorldState) (number : ℕ) → Begin world num
 begun_world world number begin =
     (next world (steps.Begin number begin.pid begin.tid begin.word begin.path begin.second)).world
 
--- the access that begins: it goes by the marks as they stand then
+-- the access that begins: it has the name by which its path reaches the place, and goes by the marks as they
+-- stand then
 abbrev pub begun_access : (world : WorldState) (number : ℕ) → Begin world number → AccessState
 begun_access world number begin =
-    new_access begin.op begin.place begin.pid begin.tid (begun_world world number begin)
+    let name = name_by begin.path begin.place in
+    new_access begin.op begin.place name begin.pid begin.tid (begun_world world number begin)
 
 -- one access is another one, in whichever phase
 abbrev pub IsStill : AccessState → AccessState → Type 0

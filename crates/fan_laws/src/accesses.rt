@@ -15,12 +15,16 @@ ghost use Rattle.fan_script.specs.declared.step.Step.{Step};
 use fan_bits::Errno;
 use fan_script::{Reply, Step};
 
-/// An access that begins asks groups and then tells groups, whatever comes after it. The outcomes
-/// come in that order, up to the first denial, and to the last group if the access is finished
-/// (`order`). It goes by the marks as they stand at its begin, of a write once it has emptied the
-/// ignored sets on its file that don't survive it (`marks`). As long as it is open, only its phase
-/// changes (`same`).
+/// An access that begins is open then, at the place that its path reaches and with the name by
+/// which it does (`begins`). It asks groups and then tells groups, whatever comes after it. The
+/// outcomes come in that order, up to the first denial, and to the last group if the access is
+/// finished (`order`). It goes by the marks as they stand at its begin, of a write once it has
+/// emptied the ignored sets on its file that don't survive it (`marks`). As long as it is open,
+/// only its phase changes (`same`).
 pub fn accesses_ask_then_tell()
+    ensures begins { (world : WorldState) (number : ℕ) (begin : Begin world number) →
+        access_of (begun_world world number begin) number
+        ≡ Some (begun_access world number begin) }
     ensures order { (before later : List Step) (number : ℕ) →
         let world = after initial_world before in
         (begin : Begin world number) →
