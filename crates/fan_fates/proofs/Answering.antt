@@ -1,5 +1,5 @@
 -- The events that wait for an answer: each under a descriptor of its own, and answered once at most.
-use Rattle.std.proofs.Common.{◌≡◌, ◌∙◌, ℕ, ◌+◌, ◌<◌, ◌≤◌, Bool, true, false, cond, List, [], ◌∷◌, ◌++◌, append_assoc, append-nil, count_by, refl, ap, arith, ◌==◌}
+use Rattle.std.proofs.Common.{◌≡◌, ◌∙◌, ℕ, ◌+◌, ◌<◌, ◌≤◌, Bool, true, false, cond, ◌&&◌, List, [], ◌∷◌, ◌++◌, append_assoc, append-nil, count_by, refl, ap, arith, ◌==◌}
 use Rattle.std.proofs.lemmas.Bool.Decides.{nat_tests}
 use Rattle.fan_fates.specs.Calls.{Call, Closes, Looks, Puts, Reads, Writes, after_calls, answers, answers_of, called}
 use Rattle.fan_fates.proofs.CallForms.{PutForm, ReadForm, WriteForm, answers_one, came_last, covered, fronted, joined, lost_first, put_form, queued_in, read_form, shut, unanswered, unread, write_form, rest_left}
@@ -15,41 +15,49 @@ use Rattle.fan_queue.specs.declared.entry.Put.{Put}
 use Rattle.fan_queue.proofs.QueueLemmas.{number-merged}
 use Rattle.fan_listener.specs.ListenerState.{ListenerState, new_listener}
 use Rattle.fan_queue.specs.Queue.{merged, queued, takes}
-use Rattle.fan_listener.specs.Records.{fd_after, next_fd_after, pending_of, pendings, read_front}
+use Rattle.fan_listener.specs.Records.{fd_after, has_fd, next_fd_after, pending_of, pendings, read_front}
 use Rattle.fan_listener.specs.Responses.{answer_of, answered, closed_of, is_under}
 
 -- ---- descriptors
 
--- the descriptors that the events of entries get: each once, from the first one up
-record Given (first : ℕ) (entries : List Entry) (fd : ℕ) : Type 0 where
-  pub rises : first ≤ next_fd_after first entries
-  pub once : count_by (is_under fd) (pendings first entries) ≤ 1
-  pub before : fd < first → count_by (is_under fd) (pendings first entries) ≡ 0
-  pub later : next_fd_after first entries ≤ fd → count_by (is_under fd) (pendings first entries) ≡ 0
+-- the descriptors that some events get, from a first one up to a next: each once
+record GivenTo (first next : ℕ) (waiting : List Pending) (fd : ℕ) : Type 0 where
+  pub rises : first ≤ next
+  pub once : count_by (is_under fd) waiting ≤ 1
+  pub before : fd < first → count_by (is_under fd) waiting ≡ 0
+  pub later : next ≤ fd → count_by (is_under fd) waiting ≡ 0
 
--- one event more is counted if it is under the descriptor
-one_more : (perm : Bool) (one : Pending) (fd : ℕ) (more : List Pending)
-    → count_by (is_under fd) (cond {A = List Pending} perm (one ∷ []) [] ++ more)
-    ≤ cond (one.fd == fd) 1 0 + count_by (is_under fd) more
-one_more true one fd more = omega (arith, count_by-cons (is_under fd) one more)
-one_more false one fd more = omega arith
+-- the descriptors that the events of entries get
+abbrev Given : ℕ → List Entry → ℕ → Type 0
+Given first entries fd = GivenTo first (next_fd_after first entries) (pendings first entries) fd
 
-given-by : (first number : ℕ) (body : Body) (rest : List Entry) (fd : ℕ)
-    → Given (fd_after first body) rest fd → Given first ((record { number = number; body = body }) ∷ rest) fd
-given-by first number (bodies.Told event) rest fd more =
-    let one : Pending = record { fd = first; entry = number; event = event } in
-    let count = one_more event.perm one fd (pendings (first + 1) rest) in record {
+-- one event more is counted if it waits under the descriptor
+one_more : (asks under : Bool) (one : Pending) (next : ℕ) (waiting : List Pending) (fd : ℕ)
+    → GivenTo (cond under (one.fd + 1) one.fd) next waiting fd
+    → GivenTo one.fd next (cond {A = List Pending} (asks && under) (one ∷ []) [] ++ waiting) fd
+one_more true true one next waiting fd more =
+    let count = count_by-cons (is_under fd) one waiting in record {
       rises = omega (arith, more.rises);
       once = grind (arith, nat_tests, count, more.once, more.before);
       before = λ below. grind (arith, nat_tests, count, more.before);
       later = λ above. grind (arith, nat_tests, count, more.later, more.rises);
     }
-given-by first number bodies.Lost rest fd more = record {
-  rises = more.rises;
+one_more true false one next waiting fd more = more
+one_more false true one next waiting fd more = record {
+  rises = omega (arith, more.rises);
   once = more.once;
-  before = more.before;
+  before = λ below. more.before (omega (arith, below));
   later = more.later;
 }
+one_more false false one next waiting fd more = more
+
+given-by : (first number : ℕ) (body : Body) (rest : List Entry) (fd : ℕ)
+    → Given (fd_after first body) rest fd → Given first ((record { number = number; body = body }) ∷ rest) fd
+given-by first number (bodies.Told event) rest fd more =
+    let after = fd_after first (bodies.Told event) in
+    one_more event.perm (has_fd event.target) (record { fd = first; entry = number; event = event })
+    (next_fd_after after rest) (pendings after rest) fd more
+given-by first number bodies.Lost rest fd more = more
 
 given : (first : ℕ) (entries : List Entry) (fd : ℕ) → Given first entries fd
 given first [] fd = record {
@@ -197,10 +205,10 @@ once_put done old event given (joined same opened room is) once =
 -- an entry that is read has one event wait at most
 one_waits : (number first at : ℕ) (body : Body)
     → count_by (waits number) (pending_of first at body) ≤ cond (at == number) 1 0
-one_waits number first at (bodies.Told event) = by event.perm
+one_waits number first at (bodies.Told event) = by (event.perm && has_fd event.target)
   where
-    by : (perm : Bool) → count_by (waits number)
-        (cond {A = List Pending} perm ((record { fd = first; entry = at; event = event }) ∷ []) [])
+    by : (waiting : Bool) → count_by (waits number)
+        (cond {A = List Pending} waiting ((record { fd = first; entry = at; event = event }) ∷ []) [])
         ≤ cond (at == number) 1 0
     by true =
         let one : Pending = record { fd = first; entry = at; event = event } in

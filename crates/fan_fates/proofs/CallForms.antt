@@ -17,7 +17,7 @@ use Rattle.fan_listener.specs.ListenerState.{ListenerState}
 use Rattle.fan_listener.specs.Queue.{put, put_in, queue_of, with_queue}
 use Rattle.fan_queue.specs.Queue.{is_full, is_lost, merged, put as put_on, put_event, put_lost, queued, takes}
 use Rattle.fan_queue.specs.QueueState.{QueueState}
-use Rattle.fan_listener.specs.Records.{front_read, front_within, read_front, read_of, record_len}
+use Rattle.fan_listener.specs.Records.{first_is_longer, front_read, front_within, read_front, read_of, record_len}
 use Rattle.fan_listener.specs.Responses.{answered, entry_of, fd_in, is_under, responded, value_in, verdict, waiting_under, written}
 
 -- the listener with one entry more, queued last
@@ -79,8 +79,8 @@ pub front_of : (size : ℕ) (queue : List Entry) → Front queue (front_within s
 unfolding front_within
 front_of size [] = record { rest = []; whole = refl }
 front_of size (entry ∷ queue) =
-    longer (nat_le record_len size) entry (front_within (size - record_len) queue) queue
-    (front_of (size - record_len) queue)
+    let len = record_len entry.body in
+    longer (nat_le len size) entry (front_within (size - len) queue) queue (front_of (size - len) queue)
 
 -- what follows a front is left without it
 drop_front : {X : Type 0} (front rest : List X) → drop (length front) (front ++ rest) ≡ rest
@@ -97,7 +97,7 @@ pub data ReadForm (old : ListenerState) (size : ℕ) : ListenerState → Type 0 
 
 pub read_form : (old : ListenerState) (size : ℕ) → ReadForm old size (called old (Reads size))
 unfolding read_of
-read_form old size = by old.closed (length old.queue == 0) (nat_lt size record_len)
+read_form old size = by old.closed (length old.queue == 0) (first_is_longer size old.queue)
   where
     by : (a b c : Bool) → ReadForm old size (left_by old
         (cond {A = Result (List ℕ × ListenerState) Errno} a (Err errno.Ebadf)

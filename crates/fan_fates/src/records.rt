@@ -14,8 +14,9 @@ use fan_script::{Reply, Step};
 
 /// An entry that left a queue, or is still there, has the bits of all events that were queued as it
 /// or merged into it, or covers lost events and has no other (`bits`). A read gives the records of
-/// the entries that leave by it, in order, each with those bits (`records`); the lost entry's
-/// has FAN_Q_OVERFLOW alone (`overflow_bits`).
+/// the entries that leave by it, in order, each with those bits and the process of its events, and
+/// with their object: by a descriptor, or by handles, beside which no descriptor stands and FAN_ONDIR
+/// tells of a directory (`records`). The lost entry's has FAN_Q_OVERFLOW alone (`overflow_bits`).
 pub fn records_have_the_bits_told()
     ensures bits { (steps : List Step) (group : ℕ) →
         let deeds = deeds_in group initial_world steps in
@@ -25,7 +26,7 @@ pub fn records_have_the_bits_told()
         let deeds = deeds_in group initial_world before in
         let read = left (deeds_by world (Step.Read group size) group) in
         (next world (Step.Read group size)).reply ≡ Reply.Bytes bytes →
-        AreRecords (map (λ number. mask_of (told deeds number)) (numbers_in read)) bytes }
+        AreRecords (map (λ number. told deeds number) (numbers_in read)) bytes }
     ensures overflow_bits { (steps : List Step) (group : ℕ) →
         let deeds = deeds_in group initial_world steps in
         All (λ entry. is_lost entry ≡ true → mask_of (told deeds entry.number) ≡ overflow_bit)
