@@ -6,6 +6,7 @@ use std::process::Abort;
 use std::test::Fail;
 
 mod accesses;
+mod handles;
 mod limits;
 mod marks;
 mod queues;

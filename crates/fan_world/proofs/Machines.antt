@@ -195,11 +195,11 @@ unfolding changed
 near_changed place object marks = sym (near_cleared place object marks)
 
 -- the marks near a place tell what all tell
-sees_near : (op : Op) (place : Place) (pid tid : ℕ) (marks : List Mark) → IsMarkList marks
-    → SeesSame (filter (near place) marks) (new_access op place pid tid marks)
-sees_near op place pid tid marks is_list bits = interests_near marks is_list (happening_at place bits)
+sees_near : (op : Op) (place : Place) (name : List ℕ) (pid tid : ℕ) (marks : List Mark) → IsMarkList marks
+    → SeesSame (filter (near place) marks) (new_access op place name pid tid marks)
+sees_near op place name pid tid marks is_list bits = interests_near marks is_list (happening_at place bits)
 
-module _ (old new : Parts) (world : WorldState) (number : ℕ) (place : Place) (pid tid : ℕ) (kept : OpenAccess)
+module _ (old new : Parts) (world : WorldState) (number : ℕ) (place : Place) (name : List ℕ) (pid tid : ℕ) (kept : OpenAccess)
     (machine : IsMachine old world) (above : old.last_access < number) (is_list : IsMarkList new.marks)
     (tree : new.tree ≡ old.tree) (mounts : new.mounts ≡ old.mounts) (groups : new.groups ≡ old.groups)
     (batch : new.batch ≡ old.batch) (last : new.last_access ≡ number)
@@ -207,20 +207,20 @@ module _ (old new : Parts) (world : WorldState) (number : ℕ) (place : Place) (
     (near_is : kept.marks ≡ filter (near place) new.marks) (limit : new.limit ≡ old.limit) where
   -- the access that begins sees the marks as they stand then
   begins_in : (op : Op) (next : WorldState)
-      → ((marks view : List Mark) → IsMarkList view → SeesSame marks (new_access op place pid tid view)
-      → IsAccess marks kept.access (new_access op place pid tid view))
+      → ((marks view : List Mark) → IsMarkList view → SeesSame marks (new_access op place name pid tid view)
+      → IsAccess marks kept.access (new_access op place name pid tid view))
       → new.marks ≡ next.marks → new.waiting ≡ length next.waiting → next.tree ≡ world.tree
       → next.mounts ≡ world.mounts → next.groups ≡ world.groups → next.batch ≡ world.batch
-      → next.accesses ≡ insert_entry nat_cmp world.accesses number (new_access op place pid tid next.marks)
+      → next.accesses ≡ insert_entry nat_cmp world.accesses number (new_access op place name pid tid next.marks)
       → next.last_access ≡ number → next.limit ≡ world.limit → IsMachine new next
   begins_in op next goes_on marks waiting same_tree same_mounts same_groups same_batch accesses same_last
       same_limit =
-      let access = new_access op place pid tid next.marks in
+      let access = new_access op place name pid tid next.marks in
       let view_list : IsMarkList next.marks = rw marks at is_list in
       let near_view : kept.marks ≡ filter (near place) next.marks =
       near_is ∙ ap (filter (near place)) marks in
       let sees : SeesSame kept.marks access =
-      rw near_view (sees_near op place pid tid next.marks view_list) in
+      rw near_view (sees_near op place name pid tid next.marks view_list) in
       let above_all : world.last_access < number = rw machine.last_access at above in
       record {
         tree = tree ∙ machine.tree ∙ sym same_tree;
@@ -242,16 +242,16 @@ module _ (old new : Parts) (world : WorldState) (number : ℕ) (place : Place) (
 
   -- it begins with the change of its operation
   pub begin_done : (op : Op)
-      → ((marks view : List Mark) → IsMarkList view → SeesSame marks (new_access op place pid tid view)
-      → IsAccess marks kept.access (new_access op place pid tid view))
+      → ((marks view : List Mark) → IsMarkList view → SeesSame marks (new_access op place name pid tid view)
+      → IsAccess marks kept.access (new_access op place name pid tid view))
       → new.marks ≡ changed_if (first_change op place) old.marks
       → new.waiting ≡ old.waiting + length (retired_if (first_change op place) old.marks)
-      → IsMachine new (begins number op place pid tid world)
+      → IsMachine new (begins number op place name pid tid world)
   begin_done ops.Opens goes_on marks waiting =
-      begins_in ops.Opens (begins number ops.Opens place pid tid world) goes_on (marks ∙ machine.marks)
+      begins_in ops.Opens (begins number ops.Opens place name pid tid world) goes_on (marks ∙ machine.marks)
       (waiting ∙ add-zero old.waiting ∙ machine.waiting) refl refl refl refl refl refl refl
   begin_done ops.Writes goes_on marks waiting =
-      begins_in ops.Writes (begins number ops.Writes place pid tid world) goes_on
+      begins_in ops.Writes (begins number ops.Writes place name pid tid world) goes_on
       (marks ∙ ap (λ (marks : List Mark). changed marks (Clear place.inode)) machine.marks)
       (waiting
       ∙ ap (λ (marks : List Mark). old.waiting + length (retired marks (Clear place.inode))) machine.marks

@@ -1,10 +1,11 @@
 // `begin` and `step`: how an access begins, and its single steps.
-ghost use Rattle.std.specs.Prelude.{◌≡◌, ◌+◌, ◌<◌, ◌^◌, ◌∷◌, [], filter, length, OnErr, OnOk};
+ghost use Rattle.std.specs.Prelude.{◌≡◌, ◌+◌, ◌<◌, ◌^◌, ◌∷◌, [], filter, length, reverse, OnErr, OnOk};
 ghost use Rattle.fan_bits.specs.Interest.{near};
 ghost use Rattle.fan_bits.specs.Marks.{IsMarkList};
 ghost use Rattle.fan_bits.specs.Places.{IsPlace};
-ghost use Rattle.fan_machine.specs.Accesses.{advanced, begins, begun, first_change, is_misplaced, op_of};
+ghost use Rattle.fan_machine.specs.Accesses.{advanced, begins, begun, first_change, is_misplaced, last_name, name_by, op_of};
 ghost use Rattle.fan_machine.specs.World.{WorldState};
+ghost use Rattle.fan_mounts.specs.Reaches.{names_of};
 ghost use Rattle.fan_world.specs.Bounds.{IsSafe};
 ghost use Rattle.fan_world.specs.Done.{IsDone};
 ghost use Rattle.fan_world.specs.Machine.{IsMachine};
@@ -17,13 +18,16 @@ use super::refused::Refused;
 use super::retirement::Retirement;
 use fan_access::{Access, Op, StepOutcome};
 use fan_bits::{Change, Errno, Place};
+use fan_event::{Name, is_name};
 use fan_io::{Items, NoMemory};
 use fan_marks::MarkBook;
+use fan_mounts::split_last;
 use fan_near::NearMarks;
 use fan_script::{OpWord, Reply};
 
 impl Machine {
-    /// `begin`: EINVAL for an operation that isn't built yet, EEXIST, the walk, EISDIR.
+    /// `begin`: EINVAL for an operation that isn't built yet, EEXIST, the walk, EISDIR, EINVAL for a path
+    /// whose last name is none, as no line has it.
     #[tactic(auto, unfolding(fan_machine::specs::Accesses::begun))]
     pub(crate) fn begin(
         &mut self,
@@ -51,7 +55,12 @@ impl Machine {
         if is_misplaced(op, &place) {
             return Err(Refused::No(Errno::Eisdir));
         }
-        self.start(number, op, place, pid, tid)?;
+        let bytes = name_by(path, &place);
+        if !is_name(bytes) {
+            return Err(Refused::No(Errno::Einval));
+        }
+        let name = Name::of(self.alloc, bytes)?;
+        self.start(number, op, place, name, pid, tid)?;
         Ok(Reply::Done)
     }
 
@@ -61,6 +70,7 @@ impl Machine {
         number: u32,
         op: Op,
         place: Place,
+        name: Name,
         pid: u32,
         tid: u32,
     ) -> Result<(), NoMemory>
@@ -69,7 +79,7 @@ impl Machine {
         requires above { self.old.last_access < number }
         requires place { IsPlace place }
         ensures begins { OnOk result ((world : WorldState) → IsMachine self.old world
-            → IsMachine self.new (begins number op place pid tid world)) }
+            → IsMachine self.new (begins number op place name pid tid world)) }
         ensures safe { IsSafe (self.old.steps + 1) self.new }
         ensures steps { self.new.steps ≡ self.old.steps }
         ensures err { OnErr result (self.new ≡ self.old) }
@@ -83,7 +93,7 @@ impl Machine {
             &mut self.retirement,
             &mut marks,
         );
-        let access = Access::new(op, place, pid, tid);
+        let access = Access::new(op, place, name, pid, tid);
         self.accesses
             .add_reserved(number, OpenAccess { access, marks });
         Ok(())
@@ -156,6 +166,26 @@ fn op_of(word: OpWord) -> Option<Op>
         OpWord::Opens => Some(Op::Opens),
         OpWord::Writes => Some(Op::Writes),
         _ => None,
+    }
+}
+
+// The name by which a path reaches a place: its last one, and `.` for a root.
+fn name_by<'a>(path: &'a [u8], place: &Place) -> &'a [u8]
+    ensures { result.now ≡ name_by path.now place.now }
+{
+    if place.parent.is_none() {
+        return b".";
+    }
+    last_name(path)
+}
+
+// The last name of a path, and `.` if it has none.
+fn last_name(path: &[u8]) -> &[u8]
+    ensures { result.now ≡ last_name (reverse (names_of path.now)) }
+{
+    match split_last(path) {
+        Some((_, name)) => name,
+        None => b".",
     }
 }
 

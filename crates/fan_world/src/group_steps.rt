@@ -1,6 +1,6 @@
 // Steps of groups and their listeners: fanotify_init(2), read(2), write(2), close(2).
-ghost use Rattle.std.specs.Prelude.{◌≡◌, ◌+◌, ◌<◌, ◌^◌, ◌&&◌, not, IfOk, OnErr};
-ghost use Rattle.fan_bits.specs.Words.{has_handles, is_init_flags};
+ghost use Rattle.std.specs.Prelude.{◌≡◌, ◌+◌, ◌<◌, ◌^◌, OnErr};
+ghost use Rattle.fan_bits.specs.Words.{is_init_flags};
 ghost use Rattle.fan_machine.specs.Groups.{group_closed, group_made, group_read, group_written, limit_set};
 ghost use Rattle.fan_machine.specs.World.{WorldState};
 ghost use Rattle.fan_world.specs.Bounds.{IsSafe};
@@ -39,7 +39,7 @@ impl Machine {
         Ok(Reply::Done)
     }
 
-    /// `init`: EINVAL, also for flags that ask for handles, which aren't built yet; EMFILE.
+    /// `init`: EINVAL, EMFILE.
     #[tactic(auto, unfolding(fan_machine::specs::Groups::group_made))]
     pub(crate) fn init(&mut self, flags: u32) -> Result<Reply, Refused>
         requires few { self.old.steps < 2 ^ 30 }
@@ -51,9 +51,6 @@ impl Machine {
         ensures err { OnErr result (self.new ≡ self.old) }
     {
         let init = init_words(flags)?;
-        if init.has_handles() {
-            return Err(Refused::No(Errno::Einval));
-        }
         if self.groups.open_count() >= MAX_OPEN_GROUPS {
             return Err(Refused::No(Errno::Emfile));
         }

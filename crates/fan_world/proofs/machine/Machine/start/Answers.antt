@@ -19,7 +19,7 @@ returns-clause-begins c world machine =
     let above : c.self.inside.accesses.last < c.args.number =
     let known = c.requires.above in omega (arith, last, known) in
     let kept : OpenAccess = record { access = c.new-access.result; marks = c.empty_ignored.new.beside } in
-    begin_done (the_view c.self.inside) _ world c.args.number c.args.place c.args.pid c.args.tid kept inside
+    begin_done (the_view c.self.inside) _ world c.args.number c.args.place c.args.name c.args.pid c.args.tid kept inside
     above
     c.empty_ignored.ensures.whole refl refl refl c.empty_ignored.ensures.batch c.add_reserved.ensures.last
     (c.add_reserved.ensures.entries

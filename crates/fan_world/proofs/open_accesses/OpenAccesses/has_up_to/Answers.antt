@@ -1,5 +1,4 @@
-use Rattle.std.proofs.Common.{◌≡◌, ◌∙◌, ap, sym, subst}
-use Rattle.std.specs.List.Sorted.{IsStrictlySortedBy}
+use Rattle.std.proofs.Common.{◌∙◌, ap, sym}
 use Rattle.fan_world.specs.Opened.{OpenState}
 use Rattle.fan_world.specs.Retired.{has_up_to}
 use Rattle.fan_world.proofs.OpenLemmas.{least_up_to, empty_up_to}

@@ -1,4 +1,4 @@
-use Rattle.std.proofs.Common.{◌∙◌, ap, sym}
+use Rattle.std.proofs.Common.{sym}
 use Rattle.std.proofs.lemmas.Result.{err_from_is_err_and}
 use Rattle.fan_world.proofs.Both.{goes_after, stays_after, stays_same, stepped_both}
 use Rattle.fan_world.proofs.OpenLemmas.{counted_set}
