@@ -39,6 +39,15 @@ is_on_mount mount (Some point) = point.mount == mount
 abbrev pub carries : List Mount → ℕ → Bool
 carries mounts number = list_any (λ mount. is_on_mount number mount.point) mounts
 
+-- a mount stands on a directory, whichever mount shows that
+abbrev pub is_on_dir : ℕ → Option MountPoint → Bool
+is_on_dir dir None = false
+is_on_dir dir (Some point) = point.dir == dir
+
+-- some mount stands on a directory
+abbrev pub stands_on : List Mount → ℕ → Bool
+stands_on mounts dir = list_any (λ mount. is_on_dir dir mount.point) mounts
+
 -- a place is the root of a mount: no name leads to it
 abbrev pub is_mount_root : Place → Bool
 is_mount_root place = is_none place.parent

@@ -33,6 +33,10 @@ abbrev pub Puts : Standing → Standing → ℕ → ℕ → Option Mount → Typ
 Puts before after first second found =
     (a b : ℕ) → after a b ≡ (if first == a && second == b then found else before a b)
 
+-- the same stands everywhere, with both numbers turned round
+abbrev pub IsTurned : Standing → Standing → Type 0
+IsTurned one other = (first second : ℕ) → other second first ≡ one first second
+
 -- the same stands everywhere but at a point, if it is one
 abbrev pub IsEmptied : Standing → Standing → Option MountPoint → Type 0
 IsEmptied before after point =

@@ -12,14 +12,54 @@ use std::marker::Model;
 #[derive(Drop)]
 pub(crate) struct Index {
     by_point: BTreeMap<(u32, u32), Mount>,
+    // The same by the numbers of the directory and the mount, in this order.
+    by_dir: BTreeMap<(u32, u32), Mount>,
 }
 
 impl Model for Index {
-    ghost use Rattle.fan_mounts.specs.Pairs.{Entries};
+    ghost use Rattle.fan_mounts.specs.Pairs.{Entries, IsTurned, standing};
 
     ghost Value = { Entries };
 
     ghost view = { λ i. i.by_point.entries };
+
+    ghost invariant = { λ i. IsTurned (standing i.by_point.entries) (standing i.by_dir.entries) };
+}
+
+// Whether something stands at a first number.
+fn has_first(by_pair: &BTreeMap<(u32, u32), Mount>, first: u32) -> bool
+    ensures some { result ≡ true →
+        (second : ℕ) × (is_some (standing by_pair.now.entries first second) ≡ true) }
+    ensures none { result ≡ false →
+        (second : ℕ) → standing by_pair.now.entries first second ≡ None }
+{
+    match by_pair.range((first, 0)..).next() {
+        Some((pair, _)) => pair.0 == first,
+        None => false,
+    }
+}
+
+// Puts a mount at two numbers.
+fn put(
+    by_pair: &mut BTreeMap<(u32, u32), Mount>,
+    first: u32,
+    second: u32,
+    found: Mount,
+) -> Result<(), NoMemory>
+    ensures ok { OnOk result
+        (Puts (standing by_pair.old.entries) (standing by_pair.new.entries) first second (Some found)) }
+    ensures err { OnErr result
+        (IsSame (standing by_pair.old.entries) (standing by_pair.new.entries)) }
+{
+    by_pair.insert((first, second), found)?;
+    Ok(())
+}
+
+// Takes away what stands at two numbers. Allocates nothing.
+fn take(by_pair: &mut BTreeMap<(u32, u32), Mount>, first: u32, second: u32)
+    ensures { Puts (standing by_pair.old.entries) (standing by_pair.new.entries) first second None }
+{
+    by_pair.remove(&(first, second));
 }
 
 impl Index {
@@ -29,6 +69,7 @@ impl Index {
     {
         Index {
             by_point: BTreeMap::new(alloc),
+            by_dir: BTreeMap::new(alloc),
         }
     }
 
@@ -41,23 +82,35 @@ impl Index {
 
     /// Whether some mount stands on a directory of a mount.
     pub(crate) fn has_mount(&self, mount: u32) -> bool
-        ensures some { result ≡ true → (dir : ℕ) × (is_some (standing self.now mount dir) ≡ true) }
+        ensures some { result ≡ true →
+            (dir : ℕ) × (is_some (standing self.now mount dir) ≡ true) }
         ensures none { result ≡ false → (dir : ℕ) → standing self.now mount dir ≡ None }
     {
-        match self.by_point.range((mount, 0)..).next() {
-            Some((point, _)) => point.0 == mount,
-            None => false,
-        }
+        has_first(&self.by_point, mount)
     }
 
-    /// Puts a mount on a directory of a mount.
+    /// Whether some mount stands on a directory, whichever mount shows that.
+    pub(crate) fn has_dir(&self, dir: u32) -> bool
+        ensures some { result ≡ true →
+            (mount : ℕ) × (is_some (standing self.now mount dir) ≡ true) }
+        ensures none { result ≡ false → (mount : ℕ) → standing self.now mount dir ≡ None }
+    {
+        has_first(&self.by_dir, dir)
+    }
+
+    /// Puts a mount on a directory of a mount, on which none stands.
     pub(crate) fn insert(&mut self, mount: u32, dir: u32, found: Mount) -> Result<(), NoMemory>
+        requires { standing self.old mount dir ≡ None }
         ensures ok { OnOk result
             (Puts (standing self.old) (standing self.new) mount dir (Some found)) }
         ensures err { OnErr result (IsSame (standing self.old) (standing self.new)) }
     {
-        self.by_point.insert((mount, dir), found)?;
-        Ok(())
+        put(&mut self.by_point, mount, dir, found)?;
+        if put(&mut self.by_dir, dir, mount, found).is_ok() {
+            return Ok(());
+        }
+        take(&mut self.by_point, mount, dir);
+        Err(NoMemory)
     }
 
     /// Removes those mounts of a list that have a number from where they stand, and counts them.
@@ -83,7 +136,8 @@ impl Index {
         ensures { IsEmptied (standing self.old) (standing self.new) point }
     {
         if let Some(point) = point {
-            self.by_point.remove(&(point.mount, point.dir));
+            take(&mut self.by_point, point.mount, point.dir);
+            take(&mut self.by_dir, point.dir, point.mount);
         }
     }
 }

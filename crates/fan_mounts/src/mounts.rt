@@ -2,7 +2,7 @@
 ghost use Rattle.std.specs.Prelude.{◌≡◌, ℕ, ◌==◌, ◌∷◌, ◌++◌, List, [], count_by, position, IfOk, IfErr, OnOk, OnErr, Ok, Err, None, Some, is_some, true, false};
 ghost use Rattle.fan_bits.specs.Places.{IsObject, IsPlace};
 ghost use Rattle.fan_mounts.specs.Kept.{AreKept};
-ghost use Rattle.fan_mounts.specs.Mounts.{AreMounts, carries, initial_mounts, mount_at, mount_of, mounted, others, root_mount, unmounted, with_mount};
+ghost use Rattle.fan_mounts.specs.Mounts.{AreMounts, carries, initial_mounts, mount_at, mount_of, mounted, others, root_mount, stands_on, unmounted, with_mount};
 ghost use Rattle.fan_mounts.specs.Pairs.{has_number};
 ghost use Rattle.fan_mounts.specs.Reaches.{Reaches, place_of, root_place};
 ghost use Rattle.fan_tree.specs.Tree.{IsRefused, drawn};
@@ -112,6 +112,14 @@ impl Mounts {
         }
         self.remove(mount);
         Ok(())
+    }
+
+    /// Whether some mount stands on a directory, whichever mount shows it: rmdir(2) and rename(2) then
+    /// refuse it. A search in an index, however many mounts there are.
+    pub fn stands_on(&self, inode: u32) -> bool
+        ensures { result ≡ stands_on self.now inode }
+    {
+        self.index.has_dir(inode)
     }
 
     /// The mount that stands on a directory as another mount shows it.

@@ -153,8 +153,14 @@ fn a_mount_stays_while_it_carries_another(rt: HostRuntime) -> Result<(), Fail> {
         umount_at(&mut mounts, &tree, b"/a".as_slice()),
         Err(Errno::Ebusy)
     );
+    for (inode, stands) in [(4, true), (5, true), (9, true), (8, false), (2, false)] {
+        assert_eq!(rt; mounts.stands_on(inode), stands);
+    }
     assert_eq!(rt; umount_at(&mut mounts, &tree, b"/a/x".as_slice()), Ok(()));
     assert_eq!(rt; umount_at(&mut mounts, &tree, b"/a".as_slice()), Ok(()));
+    assert!(rt; !mounts.stands_on(9));
+    assert!(rt; !mounts.stands_on(4));
+    assert!(rt; mounts.stands_on(5));
     assert_eq!(rt;
         mounts.place(&tree, b"/a".as_slice()),
         place(3, 1, 4, Some(2))
