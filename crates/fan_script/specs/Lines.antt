@@ -1,5 +1,6 @@
 -- How a line of a script is spelled: its words, with one space between each two.
-use Rattle.std.specs.Prelude.{◌≡◌, ℕ, ◌<◌, ◌≤◌, ◌^◌, List, [], ◌∷◌, Option, Some, None, codes}
+use Rattle.std.specs.Prelude.{◌≡◌, ℕ, Bool, true, false, ◌<◌, ◌≤◌, ◌^◌, List, [], ◌∷◌, Option, Some, None, codes}
+use Rattle.std.specs.Bool.{MatchBool}
 use Rattle.std.specs.List.{join_with_byte}
 use Rattle.std.specs.Fmt.{decimal}
 use Rattle.fan_text.specs.Spelling.{IsPath, IsResponse, hex, hex_text}
@@ -62,20 +63,15 @@ IsNumber number = (1 ≤ number) × (number ≤ 4294967295)
 abbrev pub IsPid : ℕ → Type 0
 IsPid number = (1 ≤ number) × (number ≤ 2147483647)
 
+-- the operations that have a second path
+abbrev pub takes_second : OpWord → Bool
+takes_second ops.Renames = true
+takes_second _ = false
+
 -- a second path stands with `rename`, and with no other operation
 abbrev pub FitsOp : OpWord → Option (List ℕ) → Type 0
-FitsOp ops.Opens second = second ≡ None
-FitsOp ops.Execs second = second ≡ None
-FitsOp ops.Reads second = second ≡ None
-FitsOp ops.Writes second = second ≡ None
-FitsOp ops.ClosesWrite second = second ≡ None
-FitsOp ops.ClosesRead second = second ≡ None
-FitsOp ops.Attribs second = second ≡ None
-FitsOp ops.Creates second = second ≡ None
-FitsOp ops.MakesDir second = second ≡ None
-FitsOp ops.Unlinks second = second ≡ None
-FitsOp ops.RemovesDir second = second ≡ None
-FitsOp ops.Renames second = (path : List ℕ) × (second ≡ Some path) × IsPath path
+FitsOp op second =
+    MatchBool (takes_second op) ((path : List ℕ) × (second ≡ Some path) × IsPath path) (second ≡ None)
 
 -- the fields of a step are in their ranges
 abbrev pub FitsStep : Step → Type 0

@@ -13,7 +13,7 @@ use Rattle.fan_script.specs.declared.line.LineRefused.TheVariants.{BadLine, NoMe
 use Rattle.fan_script.specs.declared.step.OpWord.{OpWord}
 use Rattle.fan_script.specs.declared.step.OpWord.TheVariants as ops
 use Rattle.fan_script.specs.declared.step.Step.TheVariants as steps
-use Rattle.fan_script.specs.Lines.{op_word}
+use Rattle.fan_script.specs.Lines.{op_word, takes_second}
 
 infixl 10 ◌>>=◌
 abbrev pub ◌>>=◌ : {A B : Type 0} → Option A → (A → Option B) → Option B
@@ -164,8 +164,7 @@ two_paths_at fields = do
 
 -- the paths of an operation: two of a rename, and one of any other
 abbrev pub paths_at : OpWord → List ℕ → Option (List ℕ × Option (List ℕ))
-paths_at ops.Renames fields = two_paths_at fields
-paths_at _ fields = one_path_at fields
+paths_at op fields = if takes_second op then two_paths_at fields else one_path_at fields
 
 -- an access, a process, a thread, an operation and its paths
 unfoldable pub begin_at : List ℕ → Option Line

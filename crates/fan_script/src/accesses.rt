@@ -38,9 +38,10 @@ fn two_paths(alloc: Global, fields: &[u8]) -> Result<Paths, LineRefused>
 fn paths(alloc: Global, op: OpWord, fields: &[u8]) -> Result<Paths, LineRefused>
     ensures { Gives (λ paths. paths) result (paths_at op fields.now) }
 {
-    match op {
-        OpWord::Renames => two_paths(alloc, fields),
-        _ => one_path(alloc, fields),
+    if op.takes_second() {
+        two_paths(alloc, fields)
+    } else {
+        one_path(alloc, fields)
     }
 }
 

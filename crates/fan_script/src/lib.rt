@@ -2,7 +2,6 @@
 #![tactic(auto)]
 
 mod accesses;
-mod built_steps;
 mod fields;
 mod forms;
 mod groups;
@@ -16,7 +15,6 @@ mod tests;
 mod tree;
 mod words;
 
-pub use built_steps::built;
 pub use fan_bits::StepOutcome;
 pub use laws::{at_most_one_line, finds_the_line};
 pub use line::{Line, LineRefused, read_line};

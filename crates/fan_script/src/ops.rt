@@ -1,6 +1,6 @@
 // The words of operations.
 ghost use Rattle.std.specs.Prelude.{◌≡◌};
-ghost use Rattle.fan_script.specs.Lines.{op_word};
+ghost use Rattle.fan_script.specs.Lines.{op_word, takes_second};
 ghost use Rattle.fan_script.specs.Reading.{op_at};
 
 use crate::step::OpWord;
@@ -40,6 +40,13 @@ impl OpWord {
             OpWord::RemovesDir => b"rmdir",
             OpWord::Renames => b"rename",
         }
+    }
+
+    /// Whether a `begin` of the operation has a second path.
+    pub fn takes_second(self) -> bool
+        ensures { result ≡ takes_second self }
+    {
+        matches!(self, OpWord::Renames)
     }
 }
 

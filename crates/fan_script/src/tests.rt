@@ -1,5 +1,5 @@
 // Lines at their limits, and bytes that are no line.
-use super::{Line, LineRefused, OpWord, Step, built, read_line};
+use super::{Line, LineRefused, OpWord, Step, read_line};
 use std::alloc::{AllocError, Global};
 use std::test::Fail;
 
@@ -142,31 +142,6 @@ const OPS: [(&str, OpWord); 12] = [
     ("rename", OpWord::Renames),
 ];
 
-// A line, and whether its step is built.
-const BUILT: [(&str, bool); 21] = [
-    ("mkfile /a", true),
-    ("mkfs", true),
-    ("limit 1", true),
-    ("init 0", true),
-    ("init fffff1ff", true),
-    ("init 200", true),
-    ("init 400", true),
-    ("init 800", true),
-    ("mark 1 0 0 /a", true),
-    ("mark 1 ffffff1d 0 /a", true),
-    ("mark 1 2 0 /a", true),
-    ("mark 1 20 0 /a", true),
-    ("mark 1 40 0 /a", true),
-    ("mark 1 80 0 /a", true),
-    ("begin 1 1 1 open /a", true),
-    ("begin 1 1 1 write /a", true),
-    ("begin 1 1 1 exec /a", false),
-    ("begin 1 1 1 rename /a /b", false),
-    ("step 1", true),
-    ("close 1", true),
-    ("grace", true),
-];
-
 // Whether the bytes are read as a step, with these numbers and this path or response.
 fn is_read_as(alloc: Global, bytes: &str, step: &str, numbers: [u64; 4], last: &str) -> bool {
     match read_line(alloc, bytes.as_bytes()) {
@@ -185,14 +160,6 @@ fn begins(alloc: Global, bytes: &[u8], wanted: OpWord, last: Option<&[u8]>) -> b
         Ok(Line::One(Step::Begin { op, second, .. })) => {
             op == wanted && second.as_ref().map(|path| path.as_slice()) == last
         }
-        _ => false,
-    }
-}
-
-// Whether the bytes are a step, and it is built.
-fn is_built(alloc: Global, bytes: &str) -> bool {
-    match read_line(alloc, bytes.as_bytes()) {
-        Ok(Line::One(step)) => built(&step),
         _ => false,
     }
 }
@@ -230,6 +197,7 @@ fn other_bytes_are_no_line(rt: HostRuntime) -> Result<(), Fail> {
 fn a_rename_alone_has_a_second_path(rt: HostRuntime) -> Result<(), Fail> {
     for (word, op) in OPS {
         let renames = op == OpWord::Renames;
+        assert_eq!(rt; op.takes_second(), renames, "{word}");
         let one = format!(in rt.alloc(); "begin 1 2 3 {word} /a")?;
         let two = format!(in rt.alloc(); "begin 1 2 3 {word} /a /b")?;
         let read = begins(rt.alloc(), one.as_bytes(), op, None);
@@ -252,15 +220,6 @@ fn names_and_responses_have_limits(rt: HostRuntime) -> Result<(), Fail> {
     for (count, read) in [(0, false), (127, false), (128, true), (130, false)] {
         let bytes = line_of(rt.alloc(), b"write 1 ", b'f', count)?;
         assert_eq!(rt; !is_bad(rt.alloc(), &bytes), read, "{count}");
-    }
-    Ok(())
-}
-
-#[test]
-fn steps_are_built_by_their_operation(rt: HostRuntime) -> Result<(), Fail> {
-    for (bytes, wanted) in BUILT {
-        let found = is_built(rt.alloc(), bytes);
-        assert_eq!(rt; found, wanted, "{bytes}");
     }
     Ok(())
 }
