@@ -1,2 +1,4 @@
+pub mod EachRound
 pub mod Steps
 pub mod Turns
+pub mod TwoMarks

@@ -1,12 +1,11 @@
 -- Accesses in progress, and the single step of one: fanotify(7), "Dealing with permission events".
 use Rattle.std.specs.Prelude.{ℕ, ◌+◌, Bool, true, false, List, Option, Some, None, slice_get}
 use Rattle.fan_access.specs.declared.op.Op.{Op}
-use Rattle.fan_access.specs.declared.turn.Turn.{Turn}
-use Rattle.fan_access.specs.Rounds.{asked_happenings, told_happenings, turns}
+use Rattle.fan_access.specs.declared.spot.Spot.{Spot}
+use Rattle.fan_access.specs.Rounds.{Turn, asked_rounds, told_rounds, turns}
 use Rattle.fan_bits.specs.declared.mark.Mark.{Mark}
 use Rattle.fan_bits.specs.declared.outcome.StepOutcome.{StepOutcome}
 use Rattle.fan_bits.specs.declared.outcome.StepOutcome.TheVariants as outcomes
-use Rattle.fan_bits.specs.declared.place.Place.{Place}
 use Rattle.fan_listener.specs.declared.answers.Answer.{Answer}
 use Rattle.fan_listener.specs.declared.answers.Answer.TheVariants as answers
 use Rattle.fan_event.specs.declared.event.Event.{Event}
@@ -23,23 +22,21 @@ pub data Phase : Type 0 where
   Waiting : ℕ → ℕ → ℕ → Phase
   Telling : ℕ → Phase
 
--- an access: what it does and where, by which name that was reached, the process and thread that do it, the
--- marks as they stood at its begin, all of them, and where it stands
+-- an access: what it does and at which spots, the process and thread that do it, the marks as they stood at its
+-- begin, all of them, and where it stands
 pub record AccessState : Type 0 where
   pub op : Op
-  pub place : Place
-  pub name : List ℕ
+  pub spots : List Spot
   pub pid : ℕ
   pub tid : ℕ
   pub view : List Mark
   pub phase : Phase
 
 -- an access at its begin
-abbrev pub new_access : Op → Place → List ℕ → ℕ → ℕ → List Mark → AccessState
-new_access op place name pid tid view = record {
+abbrev pub new_access : Op → List Spot → ℕ → ℕ → List Mark → AccessState
+new_access op spots pid tid view = record {
   op = op;
-  place = place;
-  name = name;
+  spots = spots;
   pid = pid;
   tid = tid;
   view = view;
@@ -48,16 +45,16 @@ new_access op place name pid tid view = record {
 
 -- whom it asks, in order
 abbrev pub asks : AccessState → List Turn
-asks access = turns access.view (asked_happenings access.op access.place)
+asks access = turns access.view (asked_rounds access.op access.spots)
 
 -- whom it tells, in order
 abbrev pub tells : AccessState → List Turn
-tells access = turns access.view (told_happenings access.op access.place)
+tells access = turns access.view (told_rounds access.op access.spots)
 
 -- the event of a turn, as a group with these flags is asked or told it
 abbrev pub event_of : Bool → Turn → AccessState → ℕ → Event
 event_of perm turn access flags =
-    event_for flags turn.happening access.name turn.interest.bits access.pid access.tid perm
+    event_for flags turn.happening turn.name turn.interest.bits access.pid access.tid perm
 
 -- what one step of an access makes of the listeners and of the access
 pub record Stepped : Type 0 where

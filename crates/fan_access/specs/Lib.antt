@@ -1,3 +1,4 @@
 pub mod Access
 pub mod Kept
+pub mod Operations
 pub mod Rounds

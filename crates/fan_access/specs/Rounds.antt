@@ -1,42 +1,56 @@
--- Whom an access asks and whom it tells, by its operation, its place and a list of marks: fanotify_mark(2).
-use Rattle.std.specs.Prelude.{ℕ, false, List, [], ◌∷◌, ◌++◌, map}
+-- Whom an access asks and whom it tells, by its operation, its spots and a list of marks: fanotify_mark(2).
+use Rattle.std.specs.Prelude.{ℕ, Bool, false, true, List, [], ◌∷◌, ◌++◌, map}
+use Rattle.std.specs.List.{zip}
 use Rattle.fan_access.specs.declared.op.Op.{Op}
-use Rattle.fan_access.specs.declared.op.Op.TheVariants as ops
-use Rattle.fan_access.specs.declared.turn.Turn.{Turn}
+use Rattle.fan_access.specs.declared.report.Report.{Report}
+use Rattle.fan_access.specs.declared.report.Report.TheVariants.{Itself, OfEntry}
+use Rattle.fan_access.specs.declared.spot.Spot.{Spot}
+use Rattle.fan_access.specs.Operations.{asked_events, is_dir_entry, told_events}
 use Rattle.fan_bits.specs.declared.mark.Mark.{Mark}
 use Rattle.fan_bits.specs.declared.place.Happening.{Happening}
 use Rattle.fan_bits.specs.declared.place.Interest.{Interest}
 use Rattle.fan_bits.specs.declared.place.Place.{Place}
 use Rattle.fan_bits.specs.Interest.{interests}
-use Rattle.fan_bits.specs.Words.{bit}
-use Rattle.fan_bits.specs.MarkWords.{opened, modify, open_perm}
 
--- these events happen to what is at a place
-abbrev pub happening_at : Place → ℕ → Happening
-happening_at place bits = record { place = place; bits = bits; ondir = place.dir; entry = false }
+-- one thing that groups are asked about or told of, and the name that goes with it
+pub record Round : Type 0 where
+  pub happening : Happening
+  pub name : List ℕ
 
--- the permission events that an operation asks for, in order
-abbrev pub asked_events : Op → List ℕ
-asked_events ops.Opens = bit open_perm ∷ []
-asked_events ops.Writes = []
+-- what happens at a place: events of an entry tell whether the entry is a directory, and all others whether the
+-- object at the place is one
+abbrev pub happening_at : Bool → Place → Report → Happening
+happening_at is_dir place (Itself bits) =
+    record { place = place; bits = bits; ondir = place.dir; entry = false }
+happening_at is_dir place (OfEntry bits) =
+    record { place = place; bits = bits; ondir = is_dir; entry = true }
 
--- the events that an operation tells of, in order
-abbrev pub told_events : Op → List ℕ
-told_events ops.Opens = bit opened ∷ []
-told_events ops.Writes = bit modify ∷ []
+-- a round at a spot
+abbrev pub round_at : Bool → Spot → Report → Round
+round_at is_dir spot report =
+    record { happening = happening_at is_dir spot.place report; name = spot.name }
 
--- what an access asks about, and what it tells of, one happening after the other
-abbrev pub asked_happenings : Op → Place → List Happening
-asked_happenings op place = map (happening_at place) (asked_events op)
+-- what an operation asks about, one round after the other: it asks at its first spot alone
+abbrev pub asked_rounds : Op → List Spot → List Round
+asked_rounds op [] = []
+asked_rounds op (spot ∷ more) = map (λ bits. round_at false spot (Itself bits)) (asked_events op)
 
-abbrev pub told_happenings : Op → Place → List Happening
-told_happenings op place = map (happening_at place) (told_events op)
+-- what it tells of, one round after the other: each report at its own spot, as far as there are spots
+abbrev pub told_rounds : Op → List Spot → List Round
+told_rounds op spots = map (λ pair. round_at (is_dir_entry op spots) pair.0 pair.1) (zip spots (told_events op))
 
--- the turns of the groups that want something of a happening, in their order
-abbrev pub turns_of : Happening → List Interest → List Turn
-turns_of happening wanting = map (λ interest. record { happening = happening; interest = interest }) wanting
+-- the turn of one group in a round: the events that it wants of what happens
+pub record Turn : Type 0 where
+  pub happening : Happening
+  pub name : List ℕ
+  pub interest : Interest
 
--- the turns of all groups, one happening after the other
-abbrev pub turns : List Mark → List Happening → List Turn
+-- the turns of the groups that want something of a round, in their order
+abbrev pub turns_of : Round → List Interest → List Turn
+turns_of round wanting =
+    map (λ interest. record { happening = round.happening; name = round.name; interest = interest }) wanting
+
+-- the turns of all groups, one round after the other
+abbrev pub turns : List Mark → List Round → List Turn
 turns marks [] = []
-turns marks (happening ∷ more) = turns_of happening (interests marks happening) ++ turns marks more
+turns marks (round ∷ more) = turns_of round (interests marks round.happening) ++ turns marks more

@@ -1,10 +1,13 @@
 // One access in progress, and its single step.
-ghost use Rattle.std.specs.Prelude.{◌≡◌, ◌≤◌, ◌^◌, ◌+◌, ℕ, List, All, IfOk, OnErr, slice_get};
+ghost use Rattle.std.specs.Prelude.{◌≡◌, ◌≤◌, ◌<◌, ◌^◌, ◌+◌, ℕ, List, Some, All, IfOk, OnErr, length, slice_get};
 ghost use Rattle.fan_access.specs.Access.{AccessState, access_step, asked, asks, asks_next, looked, new_access, tells, tells_next, told};
 ghost use Rattle.fan_access.specs.Kept.{AsksLeft, IsAccess, IsStepped, SeesSame, TellsLeft};
+ghost use Rattle.fan_access.specs.Operations.{IsSpots, first_mount};
+ghost use Rattle.fan_access.specs.declared.spot.Spot.{Spot};
 ghost use Rattle.fan_bits.specs.declared.mark.Mark.{Mark};
 ghost use Rattle.fan_bits.specs.Marks.{IsMarkList};
 ghost use Rattle.fan_bits.specs.Places.{IsPlace};
+ghost use Rattle.fan_event.specs.Names.{IsName};
 ghost use Rattle.fan_listener.specs.Groups.{IsCalledOnce};
 
 use crate::listeners::Listeners;
@@ -13,25 +16,26 @@ use crate::outcome::{
     answered_outcome, asked_outcome, phase_after_answer, phase_after_ask, told_outcome,
 };
 use crate::phase::{Cursor, Phase};
-use crate::turn::{Turn, next_turn};
-use fan_bits::{Connectors, Place, StepOutcome};
-use fan_event::Name;
-use fan_io::NoMemory;
+use crate::rounds::{AskedRounds, ToldRounds};
+use crate::spot::Spot;
+use crate::turn::{NextTurn, next_turn};
+use fan_bits::{Connectors, StepOutcome};
+use fan_io::{Items, NoMemory};
 use std::marker::Model;
 
-/// An access of a file or a directory, from its begin to its end. The marks by which it goes are
-/// handed in at each step: as they stood at its begin, as far as they matter at its place.
-#[derive(Debug, PartialEq, Eq, Drop)]
+/// An operation on files and directories, from its begin to its end. The marks by which it goes are
+/// handed in at each step: as they stood at its begin, as far as they matter at its spots.
+#[derive(Debug, Drop)]
 pub struct Access {
     op: Op,
-    place: Place,
-    name: Name,
+    spots: Items<Spot>,
     pid: u32,
     tid: u32,
     phase: Phase,
 }
 
 impl Model for Access {
+    ghost use Rattle.std.specs.Prelude.{All};
     ghost use Rattle.fan_access.specs.Kept.{KeptAccess};
     ghost use Rattle.fan_bits.specs.Places.{IsPlace};
 
@@ -39,38 +43,26 @@ impl Model for Access {
 
     ghost view = { λ a. record {
       op = a.op;
-      place = a.place;
-      name = a.name;
+      spots = a.spots;
       pid = a.pid;
       tid = a.tid;
       phase = a.phase;
     } };
 
-    ghost invariant = { λ a. IsPlace a.place };
-
-    ghost inverse = { λ kept. record {
-      op = kept.op;
-      place = kept.place;
-      name = kept.name;
-      pid = kept.pid;
-      tid = kept.tid;
-      phase = kept.phase;
-    } };
+    ghost invariant = { λ a. All (λ spot. IsPlace spot.place) a.spots };
 }
 
 impl Access {
-    /// An access of a place, which was reached by a name, by a process and a thread of it, at its
-    /// begin.
-    pub fn new(op: Op, place: Place, name: Name, pid: u32, tid: u32) -> Access
-        requires { IsPlace place }
+    /// An operation at its spots by a process and a thread of it, at its begin. Takes no memory.
+    pub fn new(op: Op, spots: Vec<Spot>, pid: u32, tid: u32) -> Access
+        requires { IsSpots op spots.items }
         ensures begins { (marks view : List Mark) → IsMarkList view
-            → SeesSame marks (new_access op place name pid tid view)
-            → IsAccess marks result (new_access op place name pid tid view) }
+            → SeesSame marks (new_access op spots.items pid tid view)
+            → IsAccess marks result (new_access op spots.items pid tid view) }
     {
         Access {
             op,
-            place,
-            name,
+            spots: Items::from_vec(spots),
             pid,
             tid,
             phase: Phase::Asking {
@@ -79,11 +71,22 @@ impl Access {
         }
     }
 
-    /// What it is an access of.
-    pub fn place(&self) -> Place
-        ensures { result ≡ self.now.place }
+    /// The mount through which it was begun: that of its first spot.
+    pub fn mount(&self) -> u32
+        ensures { result ≡ first_mount self.now.spots }
     {
-        self.place
+        match self.spots().first() {
+            Some(spot) => spot.place.mount,
+            None => 0,
+        }
+    }
+
+    /// Its spots, one for each thing that it tells of.
+    pub fn spots(&self) -> &[Spot]
+        ensures value { result.now ≡ self.now.spots }
+        ensures places { All (λ spot. IsPlace spot.place) self.now.spots }
+    {
+        self.spots.as_slice()
     }
 
     /// Does the next single step: asks a group, looks for its answer, or tells one. An outcome that
@@ -101,7 +104,7 @@ impl Access {
             → IsStepped marks outcome (L.groups listeners.new) self.new
             (access_step (L.groups listeners.old) access)) }
         ensures calls { IsCalledOnce (L.groups listeners.old) (L.groups listeners.new) }
-        ensures same_place { self.new.place ≡ self.old.place }
+        ensures same_spots { self.new.spots ≡ self.old.spots }
         ensures connectors { (marks : List Mark) → C.shows connectors.old marks
             → C.shows connectors.new marks }
         ensures err { OnErr result (self.new ≡ self.old) }
@@ -133,14 +136,18 @@ impl Access {
             → IsStepped marks outcome (L.groups listeners.new) self.new
             (asks_next (slice_get (asks access) at) at (L.groups listeners.old) access)) }
         ensures calls { IsCalledOnce (L.groups listeners.old) (L.groups listeners.new) }
-        ensures same_place { self.new.place ≡ self.old.place }
+        ensures same_spots { self.new.spots ≡ self.old.spots }
         ensures connectors { (marks : List Mark) → C.shows connectors.old marks
             → C.shows connectors.new marks }
         ensures err { OnErr result (self.new ≡ self.old) }
         ensures listeners { OnErr result (L.groups listeners.new ≡ L.groups listeners.old) }
     {
-        match next_turn(connectors, self.place, self.op.asked_events(), cursor) {
-            Some((turn, behind)) => self.ask(listeners, turn, behind),
+        let rounds = AskedRounds {
+            op: self.op,
+            spots: self.spots.as_slice(),
+        };
+        match next_turn(connectors, &rounds, cursor) {
+            Some(turn) => self.ask(listeners, turn),
             None => self.tell_next(connectors, listeners, Cursor::START),
         }
     }
@@ -160,14 +167,18 @@ impl Access {
             → IsStepped marks outcome (L.groups listeners.new) self.new
             (tells_next (slice_get (tells access) at) at (L.groups listeners.old) access)) }
         ensures calls { IsCalledOnce (L.groups listeners.old) (L.groups listeners.new) }
-        ensures same_place { self.new.place ≡ self.old.place }
+        ensures same_spots { self.new.spots ≡ self.old.spots }
         ensures connectors { (marks : List Mark) → C.shows connectors.old marks
             → C.shows connectors.new marks }
         ensures err { OnErr result (self.new ≡ self.old) }
         ensures listeners { OnErr result (L.groups listeners.new ≡ L.groups listeners.old) }
     {
-        match next_turn(connectors, self.place, self.op.told_events(), cursor) {
-            Some((turn, behind)) => self.tell(listeners, turn, behind),
+        let rounds = ToldRounds {
+            op: self.op,
+            spots: self.spots.as_slice(),
+        };
+        match next_turn(connectors, &rounds, cursor) {
+            Some(turn) => self.tell(listeners, turn),
             None => Ok(StepOutcome::Done),
         }
     }
@@ -176,25 +187,30 @@ impl Access {
     fn ask<L: Listeners>(
         &mut self,
         listeners: &mut L,
-        turn: Turn,
-        behind: Cursor,
+        turn: NextTurn,
     ) -> Result<StepOutcome, NoMemory>
+        requires spot { 0 < length self.old.spots }
         requires entries { All (λ listener. listener.next_entry ≤ 2 ^ 31) (L.groups listeners.old) }
         ensures ok { IfOk result (λ outcome. (marks : List Mark) (access : AccessState) (at : ℕ)
-            → IsAccess marks self.old access → AsksLeft access (at + 1) behind
-            → IsStepped marks outcome (L.groups listeners.new) self.new
-            (asked turn at (L.groups listeners.old) access)) }
+            (spot : Spot) → IsAccess marks self.old access → AsksLeft access (at + 1) turn.behind
+            → slice_get self.old.spots 0 ≡ Some spot
+            → IsStepped marks outcome (L.groups listeners.new) self.new (asked (record {
+              happening = turn.happening;
+              name = spot.name;
+              interest = turn.interest;
+            }) at (L.groups listeners.old) access)) }
         ensures calls { IsCalledOnce (L.groups listeners.old) (L.groups listeners.new) }
-        ensures same_place { self.new.place ≡ self.old.place }
+        ensures same_spots { self.new.spots ≡ self.old.spots }
         ensures err { OnErr result (self.new ≡ self.old) }
         ensures listeners { OnErr result (L.groups listeners.new ≡ L.groups listeners.old) }
     {
-        let Turn {
+        let NextTurn {
             happening,
             interest,
+            behind,
         } = turn;
         let group = interest.group;
-        let name = self.name.bytes();
+        let name = self.name(0);
         let put = listeners.ask(group, &happening, name, interest.bits, self.pid, self.tid)?;
         self.phase = phase_after_ask(behind, group, put);
         Ok(asked_outcome(group, put))
@@ -204,25 +220,30 @@ impl Access {
     fn tell<L: Listeners>(
         &mut self,
         listeners: &mut L,
-        turn: Turn,
-        behind: Cursor,
+        turn: NextTurn,
     ) -> Result<StepOutcome, NoMemory>
+        requires spot { turn.behind.round < length self.old.spots }
         requires entries { All (λ listener. listener.next_entry ≤ 2 ^ 31) (L.groups listeners.old) }
         ensures ok { IfOk result (λ outcome. (marks : List Mark) (access : AccessState) (at : ℕ)
-            → IsAccess marks self.old access → TellsLeft access (at + 1) behind
-            → IsStepped marks outcome (L.groups listeners.new) self.new
-            (told turn at (L.groups listeners.old) access)) }
+            (spot : Spot) → IsAccess marks self.old access → TellsLeft access (at + 1) turn.behind
+            → slice_get self.old.spots turn.behind.round ≡ Some spot
+            → IsStepped marks outcome (L.groups listeners.new) self.new (told (record {
+              happening = turn.happening;
+              name = spot.name;
+              interest = turn.interest;
+            }) at (L.groups listeners.old) access)) }
         ensures calls { IsCalledOnce (L.groups listeners.old) (L.groups listeners.new) }
-        ensures same_place { self.new.place ≡ self.old.place }
+        ensures same_spots { self.new.spots ≡ self.old.spots }
         ensures err { OnErr result (self.new ≡ self.old) }
         ensures listeners { OnErr result (L.groups listeners.new ≡ L.groups listeners.old) }
     {
-        let Turn {
+        let NextTurn {
             happening,
             interest,
+            behind,
         } = turn;
         let group = interest.group;
-        let name = self.name.bytes();
+        let name = self.name(behind.round);
         let put = listeners.tell(group, &happening, name, interest.bits, self.pid, self.tid)?;
         self.phase = Phase::Telling { cursor: behind };
         Ok(told_outcome(group, put))
@@ -241,10 +262,20 @@ impl Access {
             → IsStepped marks result (L.groups listeners.new) self.new
             (looked at group entry (L.groups listeners.old) access) }
         ensures calls { IsCalledOnce (L.groups listeners.old) (L.groups listeners.new) }
-        ensures same_place { self.new.place ≡ self.old.place }
+        ensures same_spots { self.new.spots ≡ self.old.spots }
     {
         let answer = listeners.answer(group, entry);
         self.phase = phase_after_answer(behind, group, entry, answer);
         answered_outcome(group, answer)
+    }
+
+    // The name at the spot with a number.
+    fn name(&self, number: usize) -> &[u8]
+        requires { number < length self.now.spots }
+        ensures value { (spot : Spot) → slice_get self.now.spots number ≡ Some spot
+            → result.now ≡ spot.name }
+        ensures whole { IsName result.now }
+    {
+        self.spots.as_slice()[number].name.bytes()
     }
 }

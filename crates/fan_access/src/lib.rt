@@ -5,7 +5,8 @@
 //! group by them:
 //!
 //! ```
-//! let mut access = Access::new(Op::Opens, place, name, 41, 41);
+//! let spots = vec![in alloc; Spot { place, name }]?;
+//! let mut access = Access::new(Op::Opens, spots, 41, 41);
 //! assert_eq!(access.step(&mut marks, &mut groups)?, StepOutcome::Asked(1));
 //! assert_eq!(access.step(&mut marks, &mut groups)?, StepOutcome::Blocked(1));
 //! groups.write(1, &[0, 0, 0, 0, 1, 0, 0, 0])?;
@@ -20,6 +21,11 @@ mod listeners;
 mod op;
 mod outcome;
 mod phase;
+mod report;
+mod rounds;
+mod spot;
+#[cfg(test)]
+mod test_groups;
 #[cfg(test)]
 mod tests;
 mod turn;
@@ -29,4 +35,5 @@ pub use fan_bits::StepOutcome;
 pub use listeners::Listeners;
 pub use op::Op;
 pub use phase::{Cursor, Phase};
-pub use turn::Turn;
+pub use report::Report;
+pub use spot::Spot;

@@ -1,261 +1,110 @@
-// Short histories of accesses, with outcomes worked out from fanotify(7).
-ghost use Rattle.std.specs.Prelude.{◌≡◌, ◌≤◌, ◌^◌, [], ◌∷◌, true, false, All, IfOk, IsTrue, OnErr};
-ghost use Rattle.fan_bits.specs.Marks.{IsMarkList, next_on};
+// Short histories of accesses, worked out from fanotify(7) and fanotify_mark(2).
+ghost use Rattle.std.specs.Prelude.{◌≡◌, length, IfOk};
+ghost use Rattle.fan_access.specs.Operations.{told_events};
 ghost use Rattle.fan_bits.specs.Places.{IsPlace};
-ghost use Rattle.fan_event.specs.Events.{event_for};
 ghost use Rattle.fan_event.specs.Names.{IsName};
-ghost use Rattle.fan_listener.specs.Queue.{put};
 
 use super::*;
-use fan_bits::{
-    Class, Connectors, FAN_MODIFY, FAN_ONDIR, FAN_OPEN, FAN_OPEN_PERM, Happening, Kind, Mark,
-    Order, Place, init_words,
-};
-use fan_event::{Name, event_for};
+use crate::Report::{Itself, OfEntry};
+use crate::test_groups::{FILE, FS, TwoGroups, marks_of_all, two_marks};
+use fan_bits::Place;
+use fan_event::Name;
 use fan_io::NoMemory;
-use fan_listener::{Answer, Listener, Put};
 use std::alloc::Global;
 use std::fmt::Write;
 use std::test::Fail;
 
-// The classes of fanotify_init(2).
-const FAN_CLASS_CONTENT: u32 = 4;
-
-const FAN_CLASS_PRE_CONTENT: u32 = 8;
-
-// A filesystem, a mount of it, a directory on it and a file in there.
-const FS: u32 = 1;
-
+// A mount of the filesystem, its root, and a directory in there.
 const MOUNT: u32 = 2;
 
-const DIRECTORY: u32 = 3;
+const ROOT: u32 = 3;
 
-const FILE: u32 = 4;
+const SUB: u32 = 5;
 
-// A list of two marks, which is searched from the front.
-#[derive(Drop)]
-struct TwoMarks {
-    marks: [Mark; 2],
-}
+// What each operation asks for and tells of, by the numbers of fanotify_mark(2).
+const TABLE: [(Op, &[u32], &[Report]); 12] = [
+    (Op::Opens, &[0x10000], &[Itself(0x20)]),
+    (Op::Execs, &[0x40000, 0x10000], &[Itself(0x1020)]),
+    (Op::Reads, &[0x20000], &[Itself(0x1)]),
+    (Op::Writes, &[], &[Itself(0x2)]),
+    (Op::ClosesWrite, &[], &[Itself(0x8)]),
+    (Op::ClosesRead, &[], &[Itself(0x10)]),
+    (Op::Attribs, &[], &[Itself(0x4)]),
+    (Op::Creates, &[], &[OfEntry(0x100)]),
+    (Op::MakesDir, &[], &[OfEntry(0x100)]),
+    (Op::Unlinks, &[], &[OfEntry(0x200), Itself(0x400)]),
+    (Op::RemovesDir, &[], &[OfEntry(0x200), Itself(0x400)]),
+    (
+        Op::Renames,
+        &[],
+        &[OfEntry(0x40), OfEntry(0x80), Itself(0x800)],
+    ),
+];
 
-impl Connectors for TwoMarks {
-    ghost shows = { λ it marks. (marks ≡ it.marks) × IsMarkList marks };
-
-    ghost is_list = { λ it marks shown. shown.1 };
-
-    fn next(&mut self, object: u32, after: Order) -> Option<Mark> {
-        find_next(&self.marks, object, after)
+#[test]
+fn operations_have_the_events_of_fanotify_mark(rt: HostRuntime) -> Result<(), Fail> {
+    for (op, asked, told) in TABLE {
+        assert_eq!(rt; op.asked_events(), asked, "asked by {op:?}");
+        assert_eq!(rt; op.told_events(), told, "told by {op:?}");
     }
+    Ok(())
 }
 
-// The mark on an object with the least order behind one.
-fn find_next(marks: &[Mark], object: u32, after: Order) -> Option<Mark>
-    ensures { result ≡ next_on marks.now object after.0 }
-{
-    marks
-        .iter()
-        .copied()
-        .filter(|mark| mark.object == object)
-        .find(|mark| mark.order() > after)
-}
+// A line is an operation, ' = ' and whom it asks and tells from its begin to its end, where each
+// answer allows. The root is 3, the file `f` in it 4 and the directory `sub` in it 5. Group 2 wants
+// all events of the file that need an answer, and group 1 all others.
+const WHOLE: &str = "\
+open = ask 2 10000@4 f, tell 1 20@4 f
+opendir = tell 1 20@3/ .
+exec = ask 2 40000@4 f, ask 2 10000@4 f, tell 1 1020@4 f
+read = ask 2 20000@4 f, tell 1 1@4 f
+list = tell 1 1@3/ .
+write = tell 1 2@4 f
+close_write = tell 1 8@4 f
+close_read = tell 1 10@4 f
+attrib = tell 1 4@4 f
+create = tell 1 100@3+ new
+mkdir = tell 1 100@3+/ new
+unlink = tell 1 200@3+ f, tell 1 400@4 f
+rmdir = tell 1 200@3+/ sub, tell 1 400@5/ sub
+rename = tell 1 40@3+ f, tell 1 80@5+ g, tell 1 800@4 g
+rename_dir = tell 1 40@3+/ sub, tell 1 80@3+/ new, tell 1 800@5/ new
+";
 
-// Group 1 of FAN_CLASS_CONTENT has a mark on the filesystem, and group 2 of FAN_CLASS_PRE_CONTENT
-// one on the file.
-fn two_marks() -> TwoMarks
-    ensures { IsMarkList result.marks }
-{
-    let on_fs = Mark {
-        group: 1,
-        class: Class::Content,
-        object: FS,
-        kind: Kind::Filesystem,
-        mask: FAN_OPEN_PERM | FAN_OPEN | FAN_ONDIR,
-        ignored: 0,
-        survives: false,
-    };
-    let on_file = Mark {
-        group: 2,
-        class: Class::PreContent,
-        object: FILE,
-        kind: Kind::Inode,
-        mask: FAN_OPEN_PERM | FAN_OPEN | FAN_MODIFY,
-        ignored: 0,
-        survives: false,
-    };
-    TwoMarks {
-        marks: [on_fs, on_file],
+#[test]
+fn operations_ask_and_tell_in_order(rt: HostRuntime) -> Result<(), Fail> {
+    for line in WHOLE.lines() {
+        let Some((word, wanted)) = line.split_once(" = ") else {
+            continue;
+        };
+        let mut groups = TwoGroups::new(rt.alloc())?;
+        run_whole(begun(rt.alloc(), word)?, &mut groups)?;
+        assert_eq!(rt; groups.log(), wanted, "of {word}");
     }
+    Ok(())
 }
 
-// The listeners of the two groups.
-#[derive(Drop)]
-struct TwoGroups {
-    alloc: Global,
-    first: Listener,
-    second: Listener,
-}
-
-impl Listeners for TwoGroups {
-    ghost groups = { λ it. it.first ∷ it.second ∷ [] };
-
-    #[tactic(auto, unfolding(fan_listener::specs::Groups::put_to))]
-    fn ask(
-        &mut self,
-        group: u32,
-        happening: &Happening,
-        name: &[u8],
-        bits: u32,
-        pid: u32,
-        tid: u32,
-    ) -> Result<Put, NoMemory> {
-        match group {
-            1 => ask(self.alloc, &mut self.first, happening, name, bits, pid, tid),
-            2 => ask(
-                self.alloc,
-                &mut self.second,
-                happening,
-                name,
-                bits,
-                pid,
-                tid,
-            ),
-            _ => Ok(Put::Closed),
+// Does all steps of an access; each group that is asked allows it.
+fn run_whole(mut access: Access, groups: &mut TwoGroups) -> Result<(), NoMemory> {
+    for _ in 0..20 {
+        if !groups.made_few() {
+            return Ok(());
+        }
+        let outcome = access.step(&mut marks_of_all(), groups)?;
+        if outcome.ends_access() {
+            return Ok(());
+        }
+        if let StepOutcome::Asked(group) = outcome {
+            groups.answer_by("allow", group);
         }
     }
-
-    #[tactic(auto, unfolding(fan_listener::specs::Groups::put_to))]
-    fn tell(
-        &mut self,
-        group: u32,
-        happening: &Happening,
-        name: &[u8],
-        bits: u32,
-        pid: u32,
-        tid: u32,
-    ) -> Result<Put, NoMemory> {
-        match group {
-            1 => tell(self.alloc, &mut self.first, happening, name, bits, pid, tid),
-            2 => tell(
-                self.alloc,
-                &mut self.second,
-                happening,
-                name,
-                bits,
-                pid,
-                tid,
-            ),
-            _ => Ok(Put::Closed),
-        }
-    }
-
-    #[tactic(auto, unfolding(fan_listener::specs::Groups::answer_from))]
-    fn answer(&mut self, group: u32, entry: u64) -> Answer {
-        match group {
-            1 => self.first.answer_of(entry),
-            2 => self.second.answer_of(entry),
-            _ => Answer::Closed,
-        }
-    }
+    Ok(())
 }
 
-impl TwoGroups {
-    // Two listeners with two entries at most.
-    fn new(alloc: Global) -> Result<TwoGroups, NoMemory> {
-        Ok(TwoGroups {
-            alloc,
-            first: listener(alloc, FAN_CLASS_CONTENT)?,
-            second: listener(alloc, FAN_CLASS_PRE_CONTENT)?,
-        })
-    }
-
-    // Lets a group answer by a word.
-    fn answer_by(&mut self, word: &str, group: u32) {
-        if group == 1 {
-            answer_by(&mut self.first, word);
-        } else {
-            answer_by(&mut self.second, word);
-        }
-    }
-
-    // Whether they made few entries so far.
-    fn made_few(&self) -> bool
-        ensures { IsTrue result
-            → All (λ listener. listener.next_entry ≤ 2 ^ 31) (self.now.first ∷ self.now.second ∷ []) }
-    {
-        self.first.entries_made() < 1000 && self.second.entries_made() < 1000
-    }
-}
-
-// A listener with two entries at most.
-fn listener(alloc: Global, class: u32) -> Result<Listener, NoMemory> {
-    match init_words(class) {
-        Ok(init) => Listener::new(alloc, init, 2),
-        Err(_) => Err(NoMemory),
-    }
-}
-
-// Puts a permission event on a queue.
-fn ask(
-    alloc: Global,
-    listener: &mut Listener,
-    happening: &Happening,
-    name: &[u8],
-    bits: u32,
-    pid: u32,
-    tid: u32,
-) -> Result<Put, NoMemory>
-    requires name { IsName name.now }
-    requires entries { listener.old.next_entry ≤ 2 ^ 31 }
-    ensures ok { IfOk result (λ outcome. (outcome, listener.new)
-        ≡ put listener.old (event_for listener.old.flags happening.now name.now bits pid tid true)) }
-    ensures err { OnErr result (listener.new ≡ listener.old) }
-{
-    let event = event_for(
-        alloc,
-        listener.init(),
-        happening,
-        name,
-        bits,
-        pid,
-        tid,
-        true,
-    )?;
-    listener.ask(event)
-}
-
-// Puts an event that needs no answer on a queue.
-fn tell(
-    alloc: Global,
-    listener: &mut Listener,
-    happening: &Happening,
-    name: &[u8],
-    bits: u32,
-    pid: u32,
-    tid: u32,
-) -> Result<Put, NoMemory>
-    requires name { IsName name.now }
-    requires entries { listener.old.next_entry ≤ 2 ^ 31 }
-    ensures ok { IfOk result (λ outcome. (outcome, listener.new)
-        ≡ put listener.old (event_for listener.old.flags happening.now name.now bits pid tid false)) }
-    ensures err { OnErr result (listener.new ≡ listener.old) }
-{
-    let event = event_for(
-        alloc,
-        listener.init(),
-        happening,
-        name,
-        bits,
-        pid,
-        tid,
-        false,
-    )?;
-    listener.tell(event)
-}
-
-// A line is a history, ' = ' and the outcomes of its single steps. `open` and `write` begin an
-// access of the file, `list` opens its directory, and each `step` is one of the access that began
-// last. `allow` and `deny` with the number of a group let it read what is queued and answer the last
-// event; `close` closes it.
+// A line is a history, ' = ' and the outcomes of its single steps. Each `step` is one of the access
+// that began last, and each other word without a number begins one, as in `begun`. `allow` and
+// `deny` with the number of a group let it read what is queued and answer the last event; `close`
+// closes it.
 const HISTORIES: &str = "\
 open step step allow.2 step step allow.1 step step step step = Asked(2) Blocked(2) Allowed(2) Asked(1) Allowed(1) Queued(2) Queued(1) Done
 open step allow.2 step step deny.1 step = Asked(2) Allowed(2) Asked(1) Denied(1)
@@ -263,8 +112,13 @@ open step deny.2 step = Asked(2) Denied(2)
 open step close.2 step step close.1 step step step step = Asked(2) Closed(2) Asked(1) Closed(1) Closed(2) Closed(1) Done
 open step open step open step step = Asked(2) Asked(2) Full(2) Asked(1)
 write step step write step step = Queued(2) Done Merged(2) Done
-list step allow.1 step step step = Asked(1) Allowed(1) Queued(1) Done
+opendir step allow.1 step step step = Asked(1) Allowed(1) Queued(1) Done
 open step open step write step step = Asked(2) Asked(2) Overflow(2) Done
+exec step allow.2 step step allow.1 step step step step = Asked(2) Allowed(2) Asked(1) Allowed(1) Queued(2) Queued(1) Done
+exec step deny.2 step = Asked(2) Denied(2)
+list step = Done
+unlink step = Done
+rename step = Done
 ";
 
 #[test]
@@ -283,53 +137,15 @@ fn histories_come_out_as_worked_out(rt: HostRuntime) -> Result<(), Fail> {
 fn play(alloc: Global, history: &str) -> Result<String, NoMemory> {
     let mut out = String::new(alloc);
     let mut groups = TwoGroups::new(alloc)?;
-    let mut access = at_file(alloc, Op::Opens)?;
+    let mut access = begun(alloc, "open")?;
     for word in history.split(' ') {
         match word.split_once('.') {
             Some((verdict, group)) => groups.answer_by(verdict, group.parse().unwrap_or(0)),
             None if word == "step" => show_step(&mut access, &mut groups, &mut out)?,
-            None if word == "write" => access = at_file(alloc, Op::Writes)?,
-            None if word == "list" => access = at_directory(alloc)?,
-            None => access = at_file(alloc, Op::Opens)?,
+            None => access = begun(alloc, word)?,
         }
     }
     Ok(out)
-}
-
-// An access of the file.
-fn at_file(alloc: Global, op: Op) -> Result<Access, NoMemory> {
-    Ok(Access::new(op, file(), Name::of(alloc, b"f")?, 41, 42))
-}
-
-// An access that opens its directory.
-fn at_directory(alloc: Global) -> Result<Access, NoMemory> {
-    Ok(Access::new(Op::Opens, directory(), Name::of(alloc, b".")?, 41, 42))
-}
-
-// The file.
-fn file() -> Place
-    ensures { IsPlace result }
-{
-    Place {
-        mount: MOUNT,
-        fs: FS,
-        inode: FILE,
-        parent: Some(DIRECTORY),
-        dir: false,
-    }
-}
-
-// Its directory.
-fn directory() -> Place
-    ensures { IsPlace result }
-{
-    Place {
-        mount: MOUNT,
-        fs: FS,
-        inode: DIRECTORY,
-        parent: None,
-        dir: true,
-    }
 }
 
 // Does a step and shows its outcome.
@@ -348,17 +164,112 @@ fn show_step(
     write!(out, "{outcome:?}").map_err(|_| NoMemory)
 }
 
-// Lets a listener read what is queued and answer the last event, or closes it.
-fn answer_by(listener: &mut Listener, word: &str) {
-    if word == "close" {
-        listener.close();
-        return;
+// The access that a word begins.
+fn begun(alloc: Global, word: &str) -> Result<Access, NoMemory> {
+    match word {
+        "opendir" => at_one(alloc, Op::Opens, root(), b"."),
+        "exec" => at_one(alloc, Op::Execs, file(), b"f"),
+        "read" => at_one(alloc, Op::Reads, file(), b"f"),
+        "list" => at_one(alloc, Op::Reads, root(), b"."),
+        "write" => at_one(alloc, Op::Writes, file(), b"f"),
+        "close_write" => at_one(alloc, Op::ClosesWrite, file(), b"f"),
+        "close_read" => at_one(alloc, Op::ClosesRead, file(), b"f"),
+        "attrib" => at_one(alloc, Op::Attribs, file(), b"f"),
+        "create" => at_one(alloc, Op::Creates, root(), b"new"),
+        "mkdir" => at_one(alloc, Op::MakesDir, root(), b"new"),
+        "unlink" => removal(alloc, Op::Unlinks, file(), b"f"),
+        "rmdir" => removal(alloc, Op::RemovesDir, sub(), b"sub"),
+        "rename" => rename(alloc, file(), b"f", sub(), b"g"),
+        "rename_dir" => rename(alloc, sub(), b"sub", root(), b"new"),
+        _ => at_one(alloc, Op::Opens, file(), b"f"),
     }
-    if listener.fds_given() > 1000 {
-        return;
+}
+
+// An operation at one spot.
+fn at_one(alloc: Global, op: Op, place: Place, name: &[u8]) -> Result<Access, NoMemory>
+    requires count { length (told_events op) ≡ 1 }
+    requires place { IsPlace place }
+    requires name { IsName name.now }
+{
+    let spots = vec![in alloc; spot(alloc, place, name)?]?;
+    Ok(Access::new(op, spots, 41, 42))
+}
+
+// The removal of an entry of the root.
+fn removal(alloc: Global, op: Op, place: Place, name: &[u8]) -> Result<Access, NoMemory>
+    requires count { length (told_events op) ≡ 2 }
+    requires place { IsPlace place }
+    requires name { IsName name.now }
+{
+    let spots = vec![in alloc; spot(alloc, root(), name)?, spot(alloc, place, name)?]?;
+    Ok(Access::new(op, spots, 41, 42))
+}
+
+// An entry of the root is renamed, into another directory or in the root.
+fn rename(
+    alloc: Global,
+    object: Place,
+    old: &[u8],
+    directory: Place,
+    new: &[u8],
+) -> Result<Access, NoMemory>
+    requires object { IsPlace object }
+    requires old { IsName old.now }
+    requires directory { IsPlace directory }
+    requires new { IsName new.now }
+{
+    let spots = vec![in alloc;
+        spot(alloc, root(), old)?,
+        spot(alloc, directory, new)?,
+        spot(alloc, object, new)?,
+    ]?;
+    Ok(Access::new(Op::Renames, spots, 41, 42))
+}
+
+// A place with a name.
+fn spot(alloc: Global, place: Place, name: &[u8]) -> Result<Spot, NoMemory>
+    requires name { IsName name.now }
+    ensures { IfOk result (λ spot. spot.place ≡ place) }
+{
+    let name = Name::of(alloc, name)?;
+    Ok(Spot { place, name })
+}
+
+// The file.
+fn file() -> Place
+    ensures { IsPlace result }
+{
+    Place {
+        mount: MOUNT,
+        fs: FS,
+        inode: FILE,
+        parent: Some(ROOT),
+        dir: false,
     }
-    let _ = listener.read(4096);
-    let last = u8::try_from(listener.fds_given().saturating_sub(1)).unwrap_or(0);
-    let value = if word == "allow" { 1 } else { 2 };
-    let _ = listener.write(&[last, 0, 0, 0, value, 0, 0, 0]);
+}
+
+// The root of the filesystem.
+fn root() -> Place
+    ensures { IsPlace result }
+{
+    Place {
+        mount: MOUNT,
+        fs: FS,
+        inode: ROOT,
+        parent: None,
+        dir: true,
+    }
+}
+
+// The directory in the root.
+fn sub() -> Place
+    ensures { IsPlace result }
+{
+    Place {
+        mount: MOUNT,
+        fs: FS,
+        inode: SUB,
+        parent: Some(ROOT),
+        dir: true,
+    }
 }

@@ -1,52 +1,56 @@
 // The next group that has its turn, by the marks as they stand.
-ghost use Rattle.std.specs.Prelude.{◌≡◌, List, [], ◌∷◌, map, MatchOption};
+ghost use Rattle.std.specs.Prelude.{◌≡◌, List, Some, [], ◌∷◌, All, IfSome, MatchOption, option_map, slice_get};
 ghost use Rattle.fan_access.specs.Kept.{turns_left};
-ghost use Rattle.fan_access.specs.Rounds.{happening_at};
+ghost use Rattle.fan_access.specs.Rounds.{Round};
 ghost use Rattle.fan_bits.specs.declared.mark.Mark.{Mark};
 ghost use Rattle.fan_bits.specs.Places.{IsPlace};
 
 use crate::phase::Cursor;
-use fan_bits::{Connectors, Happening, Interest, Order, Place};
+use crate::rounds::Rounds;
+use fan_bits::{Connectors, Happening, Interest, Order};
 use fan_decide::next_interest;
 
-/// The turn of one group.
-#[derive(Clone, Copy, Debug, PartialEq, Eq)]
-pub struct Turn {
-    /// What happens.
+/// The next turn: that of one group in a round.
+#[derive(Clone, Copy, Debug)]
+pub(crate) struct NextTurn {
+    /// What happens in the round.
     pub happening: Happening,
     /// The group, and the events that it wants.
     pub interest: Interest,
+    /// The turns that are left behind it: it has the round of the turn.
+    pub behind: Cursor,
 }
 
-/// The next turn from a cursor on, if one is left, and the cursor behind it. There is a round for
-/// each of the events, which happen to what is at the place.
-pub(crate) fn next_turn<C: Connectors>(
+/// The next turn of some rounds from a cursor on, if one is left.
+pub(crate) fn next_turn<C: Connectors, R: Rounds>(
     connectors: &mut C,
-    place: Place,
-    events: &[u32],
+    rounds: &R,
     mut cursor: Cursor,
-) -> Option<(Turn, Cursor)>
-    requires place { IsPlace place }
+) -> Option<NextTurn>
+    requires places { All (λ round. IsPlace round.happening.place) (R.rounds rounds.now) }
     requires shown { (marks : List Mark) × C.shows connectors.old marks }
     ensures found { (marks : List Mark) → C.shows connectors.old marks
-        → MatchOption result (turns_left marks (map (happening_at place) events.now) cursor ≡ [])
-        (λ found. turns_left marks (map (happening_at place) events.now) cursor
-        ≡ found.0 ∷ turns_left marks (map (happening_at place) events.now) found.1) }
+        → MatchOption result (turns_left marks (R.rounds rounds.now) cursor ≡ [])
+        (λ next. (round : Round) → slice_get (R.rounds rounds.now) next.behind.round ≡ Some round
+        → turns_left marks (R.rounds rounds.now) cursor
+        ≡ record { happening = next.happening; name = round.name; interest = next.interest }
+        ∷ turns_left marks (R.rounds rounds.now) next.behind) }
+    ensures round { IfSome result (λ next. option_map (λ round. round.happening)
+        (slice_get (R.rounds rounds.now) next.behind.round) ≡ Some next.happening) }
     ensures same { (marks : List Mark) → C.shows connectors.old marks
         → C.shows connectors.new marks }
 {
-    while let Some(bits) = events.get(cursor.round) {
-        let happening = happening_at(place, *bits);
+    while let Some(happening) = rounds.happening(cursor.round) {
         if let Some(interest) = next_interest(connectors, &happening, cursor.after) {
-            let turn = Turn {
-                happening,
-                interest,
-            };
             let behind = Cursor {
                 after: interest.order(),
                 ..cursor
             };
-            return Some((turn, behind));
+            return Some(NextTurn {
+                happening,
+                interest,
+                behind,
+            });
         }
         cursor = Cursor {
             round: cursor.round + 1,
@@ -54,16 +58,4 @@ pub(crate) fn next_turn<C: Connectors>(
         };
     }
     None
-}
-
-// These events happen to what is at a place.
-fn happening_at(place: Place, bits: u32) -> Happening
-    ensures { result ≡ happening_at place bits }
-{
-    Happening {
-        place,
-        bits,
-        ondir: place.dir,
-        entry: false,
-    }
 }

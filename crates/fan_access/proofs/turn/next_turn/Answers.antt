@@ -1,34 +1,43 @@
-use Rattle.std.proofs.Common.{◌∙◌, sym}
-use Rattle.fan_access.proofs.Turns.{round_happening, turns_left-None, turns_left-Some}
+use Rattle.std.proofs.Common.{◌∙◌, arith}
+use Rattle.std.proofs.lemmas.Option.{slice_get_within}
+use Rattle.fan_access.proofs.EachRound.{has_round, no_round}
+use Rattle.fan_access.proofs.Turns.{none_left, same_happening, turns_left-None, turns_left-Some}
 use Rattle.fan_access.proofs.turn.next_turn.Goals as goal
 
 pub returns-in-Some-next_interest-clause-found : goal.returns-in-Some-next_interest-clause-found
-returns-in-Some-next_interest-clause-found g c = λ marks shown.
-    let found = sym (c.next_interest.ensures.found marks (c.loop-bits.invariant.same marks shown))
-    ∙ c.in-Some-next_interest.is in
-    let got = round_happening c.args.place c.args.events.now c.loop-bits.cursor.round c.in-Some.bits.now
-    c.happening_at-happening.result c.in-Some.ensures.lookup.3.0 c.in-Some.ensures.lookup.1
-    c.happening_at-happening.ensures in
-    c.loop-bits.invariant.left marks shown
-    ∙ turns_left-Some marks _ c.loop-bits.cursor.round c.loop-bits.cursor.after.0
-    c.happening_at-happening.result got c.in-Some-next_interest.interest c.order.result.0 found
-    c.order.ensures
+returns-in-Some-next_interest-clause-found g c = λ marks shown round got.
+    let found = c.in-Some-next_interest.ensures.found marks (c.loop-happening.invariant.same marks shown) in
+    c.loop-happening.invariant.left marks shown
+    ∙ turns_left-Some marks _ c.loop-happening.cursor.round c.loop-happening.cursor.after.0 round got
+    c.in-Some.happening (same_happening _ round got c.in-Some.happening c.in-Some.ensures.found)
+    c.in-Some-next_interest.interest c.order.result.0 found c.order.ensures
 
-pub loop-bits-preserved : goal.loop-bits-preserved
-loop-bits-preserved g c = record {
+pub loop-happening-smaller : goal.loop-happening-smaller
+loop-happening-smaller g c =
+    let here = has_round _ c.in-Some.happening c.in-Some.ensures.found in
+    let within = slice_get_within _ c.loop-happening.cursor.round here.0 here.1 in
+    omega (arith, within)
+
+pub loop-happening-preserved : goal.loop-happening-preserved
+loop-happening-preserved g c = record {
   shown = (
-    c.loop-bits.invariant.shown.0,
-    c.next_interest.ensures.same c.loop-bits.invariant.shown.0 c.loop-bits.invariant.shown.1,
+    c.loop-happening.invariant.shown.0,
+    c.next_interest.ensures.same c.loop-happening.invariant.shown.0 c.loop-happening.invariant.shown.1,
   );
-  same = λ marks shown. c.next_interest.ensures.same marks (c.loop-bits.invariant.same marks shown);
+  same = λ marks shown.
+      c.next_interest.ensures.same marks (c.loop-happening.invariant.same marks shown);
   left = λ marks shown.
-      let here = c.loop-bits.invariant.same marks shown in
-      let is_list = g.met.C.Connectors.is_list c.loop-bits.connectors marks here in
-      let none = sym (c.next_interest.ensures.found marks here) ∙ c.in_default-next_interest.is in
-      let got = round_happening c.args.place c.args.events.now c.loop-bits.cursor.round c.in-Some.bits.now
-      c.happening_at-happening.result c.in-Some.ensures.lookup.3.0 c.in-Some.ensures.lookup.1
-      c.happening_at-happening.ensures in
-      c.loop-bits.invariant.left marks shown
-      ∙ turns_left-None marks _ c.loop-bits.cursor.round c.loop-bits.cursor.after.0
-      c.happening_at-happening.result got is_list none;
+      let here = c.loop-happening.invariant.same marks shown in
+      let is_list = g.met.C.Connectors.is_list c.loop-happening.connectors marks here in
+      let none = c.in_default-next_interest.ensures.found marks here in
+      let round = has_round _ c.in-Some.happening c.in-Some.ensures.found in
+      c.loop-happening.invariant.left marks shown
+      ∙ turns_left-None marks _ c.loop-happening.cursor.round c.loop-happening.cursor.after.0
+      round.0 round.1 c.in-Some.happening round.2 is_list none;
 }
+
+pub returns-clause-found : goal.returns-clause-found
+returns-clause-found g c = λ marks shown.
+    c.loop-happening.invariant.left marks shown
+    ∙ none_left marks _ c.loop-happening.cursor.round c.loop-happening.cursor.after.0
+    (no_round _ c.in_default.ensures.found)

@@ -1,24 +1,47 @@
+use Rattle.std.proofs.Common.{sym, subst}
+use Rattle.std.specs.Prelude.{All}
+use Rattle.std.proofs.lemmas.Option.{slice_get_within}
 use Rattle.std.proofs.lemmas.Result.{IfOk-weaker}
-use Rattle.fan_access.specs.Rounds.{asked_events, told_events}
-use Rattle.fan_access.proofs.Steps.{left_at_start, next_Some, next_None}
+use Rattle.fan_access.specs.Rounds.{asked_rounds, told_rounds}
+use Rattle.fan_access.specs.declared.spot.Spot.{Spot}
+use Rattle.fan_bits.specs.Places.{IsPlace}
+use Rattle.fan_access.proofs.EachRound.{asked_each, asked_spot, rounds_inside, told_each}
+use Rattle.fan_access.proofs.Steps.{all_at_start, next_None, next_Some}
 use Rattle.fan_access.proofs.access.Access.ask_next.Goals as goal
+
+pub next_turn-requires-clause-places : goal.next_turn-requires-clause-places
+next_turn-requires-clause-places g c =
+    asked_each IsPlace c.self.inside.op c.as_slice.result.now
+    (subst (All (λ (spot : Spot). IsPlace spot.place)) (sym c.as_slice.ensures) c.self.invariant)
+
+pub ask-requires-clause-spot : goal.ask-requires-clause-spot
+ask-requires-clause-spot g c =
+    let these = rounds_inside asked_rounds _ c.args.self.now _ c.self.view_is c.as_slice.ensures in
+    let here = asked_spot c.args.self.now _ these c.in-Some.turn.behind.round
+    c.in-Some.turn.happening (sym c.in-Some.ensures.round) in
+    slice_get_within c.args.self.now.spots 0 here.2.0 here.2.1
 
 pub returns-in-Some-clause-ok : goal.returns-in-Some-clause-ok
 returns-in-Some-clause-ok g c =
     IfOk-weaker c.ask.result _ _
     (λ outcome stepped marks access at shown is left.
-    let next = next_Some asked_events marks _ access is at c.args.cursor _ c.self.view_is _
-    c.asked_events.ensures left c.in-Some.turn c.in-Some.behind (c.in-Some.ensures.found marks shown) in
-    rw next.0 (stepped marks access at is next.1)) c.ask.ensures.ok
+    let these = rounds_inside asked_rounds _ c.args.self.now _ c.self.view_is c.as_slice.ensures in
+    let turn = c.in-Some.turn in
+    let here = asked_spot c.args.self.now _ these turn.behind.round turn.happening
+    (sym c.in-Some.ensures.round) in
+    let next = next_Some asked_rounds asked_each marks access c.args.self.now is at c.args.cursor _
+    these left (record { happening = turn.happening; name = here.0.name; interest = turn.interest })
+    turn.behind (c.in-Some.ensures.found marks shown here.0 here.1) in
+    rw (next.0, sym here.2.2) (stepped marks access at here.2.0 is next.1 here.2.1)) c.ask.ensures.ok
 
 pub returns-in-None-clause-ok : goal.returns-in-None-clause-ok
 returns-in-None-clause-ok g c =
     IfOk-weaker c.tell_next.result _ _
     (λ outcome stepped marks access at shown is left.
+    let these = rounds_inside asked_rounds _ c.args.self.now _ c.self.view_is c.as_slice.ensures in
     let here = c.in-None.ensures.same marks shown in
-    let none = next_None asked_events marks _ access is at c.args.cursor _ c.self.view_is _
-    c.asked_events.ensures left (c.in-None.ensures.found marks shown) in
+    let none = next_None asked_rounds asked_each marks access c.args.self.now is at c.args.cursor _
+    these left (c.in-None.ensures.found marks shown) in
     let is_list = g.met.C.Connectors.is_list c.next_turn.new.connectors marks here in
-    rw none (stepped marks access 0 here is
-    (left_at_start marks access is.sees is_list (told_events access.op))))
+    rw none (stepped marks access 0 here is (all_at_start told_rounds told_each marks access is_list is.sees)))
     c.tell_next.ensures.ok

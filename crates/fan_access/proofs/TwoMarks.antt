@@ -1,9 +1,9 @@
-use Rattle.std.proofs.Common.{◌≡◌, ◌<◌, [], ◌∷◌, true, refl, arith, rules}
+-- Lists of two marks, for the tests.
+use Rattle.std.proofs.Common.{◌≡◌, ◌<◌, [], ◌∷◌, true, refl, arith}
 use Rattle.std.specs.Prelude.{All}
 use Rattle.std.proofs.lemmas.List.Elements.{All-cons, All-nil}
 use Rattle.fan_bits.specs.declared.mark.Mark.{Mark}
 use Rattle.fan_bits.specs.Marks.{IsMark, IsMarkList, is_before, order_of}
-use Rattle.fan_access.proofs.tests.two_marks.Goals as goal
 
 -- what holds of both holds of all
 All-two : (P : Mark → Type 0) (first second : Mark) → P first → P second → All P (first ∷ second ∷ [])
@@ -11,7 +11,7 @@ All-two P first second here there =
     All-cons P first (second ∷ []) here (All-cons P second [] there (All-nil P))
 
 -- two marks in order, of two groups, are a list of marks
-two-IsMarkList : (first second : Mark) → IsMark first → IsMark second
+pub two-IsMarkList : (first second : Mark) → IsMark first → IsMark second
     → is_before second.object (order_of second) first ≡ true → first.group < second.group
     → IsMarkList (first ∷ second ∷ [])
 two-IsMarkList first second here there before groups = record {
@@ -28,6 +28,3 @@ two-IsMarkList first second here there before groups = record {
       (All-two (λ other. second.group ≡ other.group → second.class ≡ other.class) first second
       (λ same. absurd (omega arith)) (λ same. refl));
 }
-
-pub returns : goal.returns
-returns c = two-IsMarkList _ _ (search rules) (search rules) refl (omega arith)
