@@ -1,5 +1,7 @@
--- The marks near a place, object by object. No public clause cites this module.
+-- The marks near the spots of an access, object by object. Of this module public clauses cite `near_any` alone.
 use Rattle.std.specs.Prelude.{◌≡◌, ℕ, ◌<◌, ◌≤◌, ◌==◌, ◌||◌, ◌&&◌, Bool, true, List, Option, Some, None, filter, nat_le, if◌then◌else◌}
+use Rattle.std.specs.List.{list_any}
+use Rattle.fan_access.specs.declared.spot.Spot.{Spot}
 use Rattle.fan_bits.specs.declared.mark.Mark.{Mark}
 use Rattle.fan_bits.specs.declared.place.Place.{Place}
 use Rattle.fan_bits.specs.Interest.{near}
@@ -10,9 +12,17 @@ abbrev pub is_near : Place → ℕ → Bool
 is_near place object =
     object == place.inode || object == place.mount || object == place.fs || is_parent object place.parent
 
--- the marks near a place on the objects up to a number
-abbrev pub near_up_to : Place → ℕ → List Mark → List Mark
-near_up_to place last marks = filter (λ mark. near place mark && nat_le mark.object last) marks
+-- a mark is on an object of one of the spots, or on its parent; public clauses say by it which marks are kept
+abbrev pub near_any : List Spot → Mark → Bool
+near_any spots mark = list_any (λ spot. near spot.place mark) spots
+
+-- an object is that of one of the spots, or its parent: a mark on it is near the spots
+abbrev pub is_near_any : List Spot → ℕ → Bool
+is_near_any spots object = list_any (λ spot. is_near spot.place object) spots
+
+-- the marks on the objects up to a number that pass a test
+abbrev pub up_to : (ℕ → Bool) → ℕ → List Mark → List Mark
+up_to test last marks = filter (λ mark. test mark.object && nat_le mark.object last) marks
 
 -- the least number behind another that passes a test, or none if no number behind it passes
 abbrev pub IsLeast : (ℕ → Bool) → ℕ → Option ℕ → Type 0

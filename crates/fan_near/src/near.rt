@@ -1,15 +1,13 @@
-// The marks near the place of an access, as they stood at its begin.
+// The marks near the spots of an access, as they stood at its begin.
 ghost use Rattle.std.specs.Prelude.{◌≡◌, ◌≤◌, ◌^◌, ◌==◌, ◌||◌, ℕ, Bool, [], All, IfOk, OnErr, filter, find, map};
 ghost use Rattle.fan_access.specs.Access.{AccessState, access_step};
 ghost use Rattle.fan_access.specs.Kept.{IsAccess, IsStepped};
 ghost use Rattle.fan_bits.specs.declared.change.Change.TheVariants.{Clear};
-ghost use Rattle.fan_bits.specs.Interest.{near};
 ghost use Rattle.fan_bits.specs.Marks.{IsMarkList, Rises, changed, cleared, is_behind, next_on, stands};
-ghost use Rattle.fan_bits.specs.Places.{IsPlace};
 ghost use Rattle.fan_listener.specs.Groups.{IsCalledOnce};
-ghost use Rattle.fan_near.specs.Near.{IsLeast, if_on, is_near};
+ghost use Rattle.fan_near.specs.Near.{IsLeast, if_on, is_near, is_near_any, near_any};
 
-use fan_access::{Access, StepOutcome};
+use fan_access::{Access, Spot, StepOutcome};
 use fan_bits::{Connectors, Mark, Order, Place};
 use fan_groups::Groups;
 use fan_io::NoMemory;
@@ -45,15 +43,19 @@ impl NearMarks {
         }
     }
 
-    /// The marks near a place, as the book has them now.
-    pub fn of(alloc: Global, book: &MarkBook, place: &Place) -> Result<NearMarks, NoMemory>
-        requires { IsPlace place.now }
-        ensures near { IfOk result (λ marks. marks ≡ filter (near place.now) book.now.marks) }
+    /// The marks near the spots of an access, as the book has them now. Allocates nothing but the marks.
+    ///
+    /// # Errors
+    /// `NoMemory` if there was none for the marks.
+    pub fn of(alloc: Global, book: &MarkBook, spots: &[Spot]) -> Result<NearMarks, NoMemory>
+        ensures near { IfOk result (λ marks. marks ≡ filter (near_any spots.now) book.now.marks) }
         ensures whole { IfOk result (λ _. IsMarkList book.now.marks) }
     {
         let mut marks = Vec::new(alloc);
         let mut last = 0;
-        while let Some(object) = next_object(place, last) {
+        // None is on object 0, but the call shows that the book holds a list of marks.
+        book.marks_on(last, &mut marks)?;
+        while let Some(object) = next_object(spots, last) {
             book.marks_on(object, &mut marks)?;
             last = object;
         }
@@ -80,7 +82,7 @@ impl NearMarks {
             → IsStepped self.old outcome groups.new access.new (access_step groups.old state)) }
         ensures calls { IsCalledOnce groups.old groups.new }
         ensures same { self.new ≡ self.old }
-        ensures same_place { access.new.place ≡ access.old.place }
+        ensures same_spots { access.new.spots ≡ access.old.spots }
         ensures err { OnErr result (access.new ≡ access.old) }
         ensures groups { OnErr result (groups.new ≡ groups.old) }
     {
@@ -144,11 +146,23 @@ fn clear(mark: &mut Mark, object: u32)
     }
 }
 
-// The least of the objects near a place whose number is greater than the last.
-fn next_object(place: &Place, last: u32) -> Option<u32>
-    ensures { IsLeast (is_near place.now) last result }
+// The least of the objects near some spots whose number is greater than the last.
+fn next_object(spots: &[Spot], last: u32) -> Option<u32>
+    ensures { IsLeast (is_near_any spots.now) last result }
 {
-    let next = lesser(None, place.inode, last);
+    let mut next = None;
+    for spot in spots {
+        next = lesser_near(next, &spot.place, last);
+    }
+    next
+}
+
+// The least of what was found before and the objects near a place, if greater than the last.
+fn lesser_near(found: Option<u32>, place: &Place, last: u32) -> Option<u32>
+    ensures { (test : ℕ → Bool) → IsLeast test last found
+        → IsLeast (λ other. test other || is_near place.now other) last result }
+{
+    let next = lesser(found, place.inode, last);
     let next = lesser(next, place.mount, last);
     let next = lesser(next, place.fs, last);
     match place.parent {
