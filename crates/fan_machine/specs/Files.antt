@@ -2,6 +2,7 @@
 use Rattle.std.specs.Prelude.{ℕ, ◌==◌, Bool, not, List, [], ◌∷◌, Result, Err, is_some, reverse}
 use Rattle.std.specs.List.{list_any}
 use Rattle.fan_access.specs.Access.{AccessState}
+use Rattle.fan_access.specs.Operations.{first_mount}
 use Rattle.fan_bits.specs.declared.change.Change.TheVariants.{DropObject}
 use Rattle.fan_bits.specs.declared.errno.Errno.{Errno}
 use Rattle.fan_bits.specs.declared.errno.Errno.TheVariants as errno
@@ -45,7 +46,7 @@ fs_mounted world fs path = do
 
 -- an open access was begun through a mount
 abbrev pub goes_through : ℕ → ℕ × AccessState → Bool
-goes_through mount access = access.1.place.mount == mount
+goes_through mount access = first_mount access.1.spots == mount
 
 -- `umount`: the walk, EINVAL if this is no mount's root, EBUSY if an access is open through it, if it is the mount
 -- at `/`, and if it carries another; the marks on it go

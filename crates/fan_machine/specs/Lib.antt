@@ -1,5 +1,6 @@
 pub mod Accesses
 pub mod Batches
+pub mod Deeds
 pub mod Files
 pub mod Groups
 pub mod Marking

@@ -20,7 +20,8 @@ attempted world (steps.Umount path) = fs_unmounted world path
 attempted world (steps.Limit entries) = limit_set world entries
 attempted world (steps.Init flags) = group_made world flags
 attempted world (steps.Mark group flags mask path) = marked world group flags mask path
-attempted world (steps.Begin access pid tid op path second) = begun world access pid tid op path
+attempted world (steps.Begin access pid tid op path second) =
+    begun world access pid tid op path second
 attempted world (steps.Advance access) = advanced world access
 attempted world (steps.Read group size) = group_read world group size
 attempted world (steps.Write group bytes) = group_written world group bytes

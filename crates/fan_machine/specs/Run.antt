@@ -26,6 +26,7 @@ ran (suc count) world access =
     if is_last first.reply then record { answers = first.reply ∷ []; world = first.world }
     else record { answers = first.reply ∷ more.answers; world = more.world }
 
--- no run needs more single steps: each of 128 groups is asked, answers and is told at most, and then the access is done
+-- no run needs more single steps: an access that executes asks each of 128 groups twice, gets two answers and tells
+-- once, and no other has more to do; and then the access is done
 unfoldable pub max_answers : ℕ
-max_answers = 385
+max_answers = 641

@@ -1,5 +1,5 @@
 -- The state of the machine.
-use Rattle.std.specs.Prelude.{ℕ, List, [], ◌++◌, Option, None, map}
+use Rattle.std.specs.Prelude.{ℕ, List, [], ◌++◌, Option, Some, None, map}
 use Rattle.fan_access.specs.Access.{AccessState}
 use Rattle.fan_bits.specs.declared.change.Change.{Change}
 use Rattle.fan_bits.specs.declared.mark.Mark.{Mark}
@@ -55,9 +55,19 @@ initial_world = record {
 abbrev pub retired_now : ℕ → List Mark → List RetiredMark
 retired_now last_access marks = map (λ mark. record { mark = mark; last_access = last_access }) marks
 
+-- the marks after a change, if there is one
+abbrev pub changed_if : Option Change → List Mark → List Mark
+changed_if None marks = marks
+changed_if (Some change) marks = changed marks change
+
 -- the marks change, and what the change retires waits for a batch
 abbrev pub with_change : Change → WorldState → WorldState
 with_change change world = record world {
   marks = changed world.marks change;
   waiting = world.waiting ++ retired_now world.last_access (retired world.marks change);
 }
+
+-- the same of a change that may be none
+abbrev pub with_change_if : Option Change → WorldState → WorldState
+with_change_if None world = world
+with_change_if (Some change) world = with_change change world
