@@ -3,7 +3,7 @@ use Rattle.std.proofs.Common.{◌≡◌, ◌∙◌, ℕ, ◌≤◌, ◌==◌, Bo
 use Rattle.std.proofs.lemmas.Bool.{eqb-true}
 use Rattle.std.specs.Prelude.{slice_get}
 use Rattle.fan_access.specs.Access.{AccessState, Asking, Phase, Telling, Waiting, asks, event_of, tells}
-use Rattle.fan_access.specs.declared.turn.Turn.{Turn}
+use Rattle.fan_access.specs.Rounds.{Turn}
 use Rattle.fan_fates.specs.Calls.{Call, Came, Closes, Looks, Puts, Reads, Writes, after_calls, deeds, deeds_of}
 use Rattle.fan_fates.specs.Rules.{FindsClosed, IsQueued, NamesNext, is_lost_fate}
 use Rattle.fan_fates.specs.Steps.{access_calls, ask_calls, calls_at, deeds_at, deeds_by, deeds_in, only_of, phase_calls, queue_in, queue_of, step_calls, turn_calls}

@@ -1,7 +1,7 @@
 -- What a step says of the deeds in a group: the turn from which an event comes, and who takes entries.
 use Rattle.std.specs.Prelude.{◌≡◌, ◌≢◌, ◌⊎◌, ◌≤◌, ℕ, Bool, true, false, List, [], ◌∷◌, Option, Some, None, length}
 use Rattle.fan_access.specs.Access.{AccessState, event_of}
-use Rattle.fan_access.specs.declared.turn.Turn.{Turn}
+use Rattle.fan_access.specs.Rounds.{Turn}
 use Rattle.fan_bits.specs.declared.outcome.StepOutcome.{StepOutcome}
 use Rattle.fan_bits.specs.declared.outcome.StepOutcome.TheVariants as outcomes
 use Rattle.fan_bits.specs.Words.{occurs, unlimited_queue}

@@ -2,7 +2,7 @@
 ghost use Rattle.std.specs.Prelude.{◌≡◌, ◌≤◌, ℕ, Bool, true, List, [], ◌∷◌, All, Some, length};
 ghost use Rattle.std.specs.List.{range_with_len};
 ghost use Rattle.fan_access.specs.Access.{AccessState};
-ghost use Rattle.fan_access.specs.declared.turn.Turn.{Turn};
+ghost use Rattle.fan_access.specs.Rounds.{Turn};
 ghost use Rattle.fan_fates.specs.Calls.{Came};
 ghost use Rattle.fan_fates.specs.Fates.{made};
 ghost use Rattle.fan_fates.specs.Rules.{FindsClosed, IsAloneIn, IsQueued, NamesNext, is_lost_fate};

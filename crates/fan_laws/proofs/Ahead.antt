@@ -2,7 +2,7 @@
 use Rattle.std.proofs.Common.{◌≡◌, ℕ, ◌+◌, Bool, true, false, List, [], ◌∷◌, ◌++◌, Option, Some, None, drop, refl, slice_get}
 use Rattle.std.specs.Prelude.{MatchBool, filter}
 use Rattle.fan_access.specs.Access.{AccessState, Asking, Phase, Telling, Waiting, access_step, after_answer, after_ask, answered_outcome, asked_outcome, asks, asks_next, tells, tells_next, told_outcome, event_of}
-use Rattle.fan_access.specs.declared.turn.Turn.{Turn}
+use Rattle.fan_access.specs.Rounds.{Turn}
 use Rattle.fan_bits.specs.declared.outcome.StepOutcome.{StepOutcome}
 use Rattle.fan_bits.specs.declared.outcome.StepOutcome.TheVariants as outcomes
 use Rattle.fan_bits.specs.Outcomes.{asked_by, ends_access, is_denial, settles, told_by}

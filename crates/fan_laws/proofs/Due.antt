@@ -2,7 +2,7 @@
 use Rattle.std.proofs.Common.{◌≡◌, ◌∙◌, ℕ, Bool, true, false, cond, not, List, [], ◌∷◌, Option, Some, None, refl, sym, ap, slice_get, inl, inr}
 use Rattle.std.specs.Prelude.{is_some}
 use Rattle.fan_access.specs.Access.{AccessState, Asking, Phase, Stepped, Telling, Waiting, access_step, answered_outcome, asked, asked_outcome, asks, asks_next, event_of, looked, step_at, tells, tells_next, told, told_outcome}
-use Rattle.fan_access.specs.declared.turn.Turn.{Turn}
+use Rattle.fan_access.specs.Rounds.{Turn}
 use Rattle.fan_bits.specs.declared.outcome.StepOutcome.{StepOutcome}
 use Rattle.fan_bits.specs.declared.outcome.StepOutcome.TheVariants as outcomes
 use Rattle.fan_listener.specs.declared.answers.Answer.{Answer}

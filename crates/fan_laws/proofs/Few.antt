@@ -1,26 +1,30 @@
 -- How many groups an access asks or tells: no more than are open.
-use Rattle.std.proofs.Common.{◌≡◌, ℕ, zero, suc, ◌+◌, ◌≤◌, true, false, cond, eqb, List, [], ◌∷◌, Some, length, map, refl, sym, ap, subst, arith, get_or, inl, inr}
+use Rattle.std.proofs.Common.{◌≡◌, ℕ, zero, suc, ◌+◌, ◌*◌, ◌≤◌, true, false, cond, eqb, List, [], ◌∷◌, Some, length, map, refl, sym, ap, subst, arith, get_or, inl, inr}
 use Rattle.std.proofs.lemmas.Bool.{cond_both, eq-eqb, eqb-true, ne_eqb, or_cases, or_left, or_right}
+use Rattle.std.proofs.Math.Nat.{min-le_right}
 use Rattle.std.proofs.lemmas.Cmp.{nat_eq_equiv}
-use Rattle.std.proofs.lemmas.List.{append-nil, length-map}
+use Rattle.std.proofs.lemmas.List.{length-append, length-map}
 use Rattle.std.proofs.lemmas.Map.Made.{length-le_from_is_member}
 use Rattle.std.proofs.lemmas.List.Elements.{All-contains, All-head, All-map, All-tail, All-weaker, recursion_from_All}
-use Rattle.std.specs.List.{IsDistinct, list_any}
+use Rattle.std.proofs.lemmas.Slice.Zip.{length-zip}
+use Rattle.std.specs.List.{IsDistinct, list_any, zip}
 use Rattle.std.specs.Prelude.{All, count_by, slice_get}
 use Rattle.fan_access.specs.declared.op.Op.{Op}
 use Rattle.fan_access.specs.declared.op.Op.TheVariants as ops
-use Rattle.fan_access.specs.declared.turn.Turn.{Turn}
-use Rattle.fan_access.specs.Rounds.{asked_happenings, told_happenings, turns, turns_of}
+use Rattle.fan_access.specs.declared.report.Report.TheVariants.{Itself}
+use Rattle.fan_access.specs.declared.spot.Spot.{Spot}
+use Rattle.fan_access.specs.Operations.{asked_events, is_dir_entry, told_events}
+use Rattle.fan_access.specs.Rounds.{Round, Turn, asked_rounds, round_at, told_rounds, turns, turns_of}
 use Rattle.fan_bits.specs.declared.mark.Mark.{Mark}
 use Rattle.fan_bits.specs.declared.place.Happening.{Happening}
 use Rattle.fan_bits.specs.declared.place.Interest.{Interest}
-use Rattle.fan_bits.specs.declared.place.Place.{Place}
 use Rattle.fan_bits.specs.Interest.{interest_order, interests}
 use Rattle.fan_bits.proofs.Interests.{IsWish, rises-interests, wishes-interests}
 use Rattle.fan_bits.proofs.Rising.{RisesBy}
 use Rattle.fan_lists.proofs.Counts.{count_by-cons}
 use Rattle.fan_listener.specs.Groups.{is_open, listener_at}
 use Rattle.fan_listener.specs.ListenerState.{ListenerState}
+use Rattle.fan_machine.specs.Groups.{max_open_groups}
 use Rattle.fan_laws.specs.Whole.{IsOpenOf}
 use Rattle.fan_laws.proofs.Marked.{AreOpenOf, of_class}
 use Rattle.fan_laws.proofs.Moves.{opened_is}
@@ -70,6 +74,33 @@ group_among groups zero listener is opened = absurd cc
 group_among groups (suc index) listener is opened =
     let here : suc index ≡ index + 1 = omega arith in
     rw here (among_open groups 1 index listener is opened)
+
+length-turns : (round : Round) (wanting : List Interest) → length (turns_of round wanting) ≡ length wanting
+length-turns round wanting =
+    length-map wanting (λ (interest : Interest). turn_of round interest)
+  where
+    turn_of : Round → Interest → Turn
+    turn_of round interest = record { happening = round.happening; name = round.name; interest = interest }
+
+-- an operation asks a round for each event that it asks about at most, and so it tells
+length-asked : (op : Op) (spots : List Spot) → length (asked_rounds op spots) ≤ length (asked_events op)
+length-asked op [] = omega arith
+length-asked op (spot ∷ more) =
+    let same = length-map (asked_events op) (λ bits. round_at false spot (Itself bits)) in omega (arith, same)
+
+length-told : (op : Op) (spots : List Spot) → length (told_rounds op spots) ≤ length (told_events op)
+length-told op spots =
+    let told = zip spots (told_events op) in
+    let same = length-map told (λ pair. round_at (is_dir_entry op spots) pair.0 pair.1) in
+    let least = length-zip spots (told_events op) in
+    let upto = min-le_right (length spots) (length (told_events op)) in
+    omega (arith, same, least, upto)
+
+-- an operation asks about two events at most, and asks about and tells of three at most
+few_events : (op : Op)
+    → (length (asked_events op) ≤ 2) × (length (asked_events op) + length (told_events op) ≤ 3)
+few_events ops.Opens = (omega arith, omega arith)
+few_events op = (omega arith, omega arith)
 
 module _ (groups : List ListenerState) where
   -- an interest is of an open group, by its class
@@ -137,24 +168,25 @@ module _ (groups : List ListenerState) where
         (λ interest wish. wish_open marks happening interest each wish)
         (interests marks happening) (wishes-interests marks happening))
 
-    abbrev turn_of : Happening → Interest → Turn
-    turn_of happening interest = record { happening = happening; interest = interest }
+    few_turns : (rounds : List Round) → count_by is_open groups ≤ max_open_groups
+        → length (turns marks rounds) ≤ max_open_groups * length rounds
+    few_turns [] few = omega arith
+    few_turns (round ∷ more) few =
+        let wanting = interests marks round.happening in
+        let first = few_of round.happening in
+        let rest = few_turns more few in
+        rw (length-append (turns_of round wanting) (turns marks more), length-turns round wanting)
+        (omega (arith, few, first, rest))
 
-    few_turns : (happening : Happening) → length (turns marks (happening ∷ [])) ≤ count_by is_open groups
-    few_turns happening =
-        rw (
-          append-nil (turns_of happening (interests marks happening)),
-          length-map (interests marks happening) (turn_of happening),
-        )
-        (few_of happening)
-
-    -- an operation asks no more groups than are open, and tells no more
-    pub few_asked : (op : Op) (place : Place) → length (turns marks
-        (asked_happenings op place)) ≤ count_by is_open groups
-    few_asked ops.Opens place = few_turns _
-    few_asked ops.Writes place = omega arith
-
-    pub few_told : (op : Op) (place : Place) → length (turns marks
-        (told_happenings op place)) ≤ count_by is_open groups
-    few_told ops.Opens place = few_turns _
-    few_told ops.Writes place = few_turns _
+    -- an operation asks two rounds of groups at most, and asks and tells three at most
+    pub few_rounds : (op : Op) (spots : List Spot) → count_by is_open groups ≤ max_open_groups →
+        let asked = length (turns marks (asked_rounds op spots)) in
+        let told = length (turns marks (told_rounds op spots)) in
+        (asked ≤ 2 * max_open_groups) × (asked + told ≤ 3 * max_open_groups)
+    few_rounds op spots few =
+        let events = few_events op in
+        let asks = length-asked op spots in
+        let tells = length-told op spots in
+        let asked = few_turns (asked_rounds op spots) few in
+        let told = few_turns (told_rounds op spots) few in
+        (omega (arith, events.0, asks, asked), omega (arith, events.1, asks, tells, asked, told))

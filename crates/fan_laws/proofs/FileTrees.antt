@@ -1,11 +1,12 @@
 -- The file tree and its mounts, whatever steps come.
-use Rattle.std.proofs.Common.{◌≡◌, ℕ, ◌+◌, ◌<◌, ◌≤◌, Bool, true, false, cond, List, [], ◌∷◌, Option, Some, None, Result, Ok, Err, refl, subst, arith, not}
+use Rattle.std.proofs.Common.{◌≡◌, ℕ, ◌<◌, ◌≤◌, true, false, cond, List, [], ◌∷◌, Option, Some, None, Result, Ok, Err, refl, subst, arith, not}
 use Rattle.std.proofs.lemmas.Bool.{cond_both}
 use Rattle.std.proofs.lemmas.List.Elements.{All-weaker}
-use Rattle.std.specs.Prelude.{IfOk, is_none, is_some, nat_lt}
+use Rattle.std.specs.Prelude.{IfOk, is_none}
 use Rattle.fan_bits.specs.declared.errno.Errno.{Errno}
 use Rattle.fan_bits.specs.declared.errno.Errno.TheVariants as errno
 use Rattle.fan_bits.specs.declared.place.Place.{Place}
+use Rattle.fan_machine.specs.Accesses.{op_of}
 use Rattle.fan_machine.specs.Next.{after, next}
 use Rattle.fan_machine.specs.Outcome.{Outcome}
 use Rattle.fan_machine.specs.World.{WorldState, initial_world}
@@ -13,10 +14,13 @@ use Rattle.fan_mounts.specs.declared.mount.Mount.{Mount}
 use Rattle.fan_mounts.specs.Mounts.{is_mount_root, mounted, with_mount}
 use Rattle.fan_mounts.proofs.Rising.{AreOf, initial_of, mounted_keeps, unmounted_keeps}
 use Rattle.fan_script.specs.declared.step.Step.{Step}
-use Rattle.fan_tree.specs.Tree.{Inode, TreeState, drawn, entry_of, inode_of, made, made_fs, made_in, max_object, root_of, with_entry, with_fs}
+use Rattle.fan_tree.specs.Tree.{TreeState, drawn, root_of}
 use Rattle.fan_tree.specs.Whole.{IsTree}
 use Rattle.fan_tree.proofs.Kept.{drawn_keeps, initial_is, made_fs_keeps, made_keeps}
-use Rattle.fan_laws.proofs.Forms.{Form, dir_made, file_made, fs_was_made, step_form, was_mounted, was_unmounted}
+use Rattle.fan_laws.proofs.Attempts.{was_done}
+use Rattle.fan_laws.proofs.Deeds.{deed_is}
+use Rattle.fan_laws.proofs.Forms.{Form, dir_made, file_made, fs_was_made, has_begun, step_form, was_mounted, was_unmounted}
+use Rattle.fan_laws.proofs.Later.{IsLater, made_fs_later, made_later}
 
 -- the numbers of mounts were drawn from a tree, and so from one that draws later numbers
 later_of : (tree new : TreeState) (mounts : List Mount) → tree.next ≤ new.next → AreOf tree mounts
@@ -26,35 +30,6 @@ later_of tree new mounts upto (are, drew) = (
   All-weaker (λ (mount : Mount). mount.number < tree.next) (λ mount. mount.number < new.next)
       (λ mount below. omega (arith, below, upto)) mounts drew,
 )
-
--- a tree that an entry is made in draws later numbers
-made_next_in : (found : Option Inode) (tree : TreeState) (name : List ℕ) (is_dir : Bool)
-    → IfOk (made_in found tree name is_dir) (λ new. tree.next ≤ new.1.next)
-made_next_in None tree name is_dir = tt
-made_next_in (Some parent) tree name is_dir =
-    let P : Result (ℕ × TreeState) Errno → Type 0 = λ r. IfOk r (λ new. tree.next ≤ new.1.next) in
-    let last : Result (ℕ × TreeState) Errno = Ok (tree.next, with_entry tree parent.number name (record { fs = parent.fs; dir = is_dir })) in
-    let inner : Result (ℕ × TreeState) Errno = cond (nat_lt max_object tree.next) (Err errno.Enospc) last in
-    let named = is_some (entry_of tree parent.number name) in
-    let middle : Result (ℕ × TreeState) Errno = cond named (Err errno.Eexist) inner in
-    cond_both (not parent.dir) (Err errno.Enotdir) middle P (λ file. tt)
-    (λ dir. cond_both named (Err errno.Eexist) inner P (λ there. tt)
-    (λ free. cond_both (nat_lt max_object tree.next) (Err errno.Enospc) last P (λ full. tt)
-    (λ room. omega arith)))
-
-made_next : (tree : TreeState) (dir : ℕ) (name : List ℕ) (is_dir : Bool) (new : ℕ × TreeState)
-    → made tree dir name is_dir ≡ Ok new → tree.next ≤ new.1.next
-unfolding made
-made_next tree dir name is_dir new is =
-    subst (λ r. IfOk r (λ new. tree.next ≤ new.1.next)) is (made_next_in (inode_of tree dir) tree name is_dir)
-
-made_fs_next : (tree : TreeState) (new : ℕ × TreeState) → made_fs tree ≡ Ok new → tree.next ≤ new.1.next
-unfolding made_fs
-made_fs_next tree new is =
-    let P : Result (ℕ × TreeState) Errno → Type 0 = λ r. IfOk r (λ new. tree.next ≤ new.1.next) in
-    subst P is (cond_both (nat_lt max_object (tree.next + 1)) (Err errno.Enospc) (Ok
-    (tree.next, with_fs tree)) P
-    (λ full. tt) (λ room. omega arith))
 
 -- a tree that a mount's number is drawn from stays a tree
 mounted_tree : (tree : TreeState) (mounts : List Mount) (fs : ℕ) (at : Place) (new : ℕ × TreeState
@@ -87,16 +62,16 @@ files_form : (world : WorldState) (step : Step) (outcome : Outcome) → Form wor
 files_form world step outcome (file_made path dir name new is) files = record {
   tree = made_keeps world.tree dir.inode name false new files.tree is;
   mounts = later_of world.tree new.1 world.mounts
-      (made_next world.tree dir.inode name false new is) files.mounts;
+      (was_done (IsLater world.tree) _ new is (made_later world.tree dir.inode name false)) files.mounts;
 }
 files_form world step outcome (dir_made path dir name new is) files = record {
   tree = made_keeps world.tree dir.inode name true new files.tree is;
   mounts = later_of world.tree new.1 world.mounts
-      (made_next world.tree dir.inode name true new is) files.mounts;
+      (was_done (IsLater world.tree) _ new is (made_later world.tree dir.inode name true)) files.mounts;
 }
 files_form world step outcome (fs_was_made new is) files = record {
   tree = made_fs_keeps world.tree new files.tree is;
-  mounts = later_of world.tree new.1 world.mounts (made_fs_next world.tree new is) files.mounts;
+  mounts = later_of world.tree new.1 world.mounts (was_done (IsLater world.tree) _ new is (made_fs_later world.tree)) files.mounts;
 }
 files_form world step outcome (was_mounted fs path at new is) files = record {
   tree = mounted_tree world.tree world.mounts fs at new files.tree is;
@@ -106,6 +81,11 @@ files_form world step outcome (was_unmounted path at left unused is) files = rec
   tree = files.tree;
   mounts = unmounted_keeps world.tree world.mounts left at.mount files.mounts is;
 }
+files_form world step outcome (has_begun number pid tid word path second deed free does) files =
+    let its = (deed_is world (op_of word) path second deed does).tree in record {
+      tree = its.whole files.tree;
+      mounts = later_of world.tree deed.tree world.mounts its.later files.mounts;
+    }
 files_form world step outcome form files = record { tree = files.tree; mounts = files.mounts }
 
 files_after : (steps : List Step) (world : WorldState) → AreFiles world → AreFiles (after world steps)

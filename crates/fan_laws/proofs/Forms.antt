@@ -1,28 +1,30 @@
 -- What a step answers and makes of the world, by its form; and that each step is of one.
-use Rattle.std.proofs.Common.{◌≡◌, ℕ, ◌+◌, Bool, true, false, List, [], ◌∷◌, ◌++◌, Option, Some, None, Result, Ok, Err, refl, subst, sym}
+use Rattle.std.proofs.Common.{◌≡◌, ℕ, ◌+◌, Bool, true, false, List, [], ◌∷◌, ◌++◌, Option, Some, None, Ok, Err, refl, subst, sym}
 use Rattle.std.specs.Prelude.{IfOk, length, not, count_by, nat_lt, reverse}
 use Rattle.std.specs.List.{list_any}
 use Rattle.std.specs.BTreeMap.{insert_entry}
 use Rattle.std.specs.Ordering.{nat_cmp}
 use Rattle.fan_access.specs.Access.{AccessState, Stepped, access_step, new_access}
 use Rattle.fan_access.specs.declared.op.Op.{Op}
+use Rattle.fan_access.specs.declared.spot.Spot.{Spot}
 use Rattle.fan_bits.specs.declared.change.Change.{Change}
 use Rattle.fan_bits.specs.declared.change.Change.TheVariants.{DropGroup, DropObject}
 use Rattle.fan_bits.specs.declared.errno.Errno.{Errno}
 use Rattle.fan_bits.specs.declared.place.Place.{Place}
 use Rattle.fan_bits.specs.declared.mark.Mark.{Mark}
-use Rattle.fan_bits.specs.Marks.{changed, retired}
+use Rattle.fan_bits.specs.Marks.{retired}
 use Rattle.fan_listener.specs.Groups.{closed_in, is_open, read_from, written_to}
 use Rattle.fan_listener.specs.ListenerState.{ListenerState, new_listener}
 use Rattle.fan_listener.specs.declared.answers.Answered.{Answered}
-use Rattle.fan_machine.specs.Accesses.{accesses_after, access_of, advanced, begins, begun, first_change, name_by, op_of}
+use Rattle.fan_machine.specs.Accesses.{accesses_after, access_of, advanced, begins, begun, op_of}
 use Rattle.fan_machine.specs.Batches.{batch_of, graced, held, reclaimed, started}
-use Rattle.fan_machine.specs.Files.{entry_made, fs_made, fs_mounted, fs_unmounted, goes_through, made_by, place_in}
+use Rattle.fan_machine.specs.Deeds.{Deed, deed_of}
+use Rattle.fan_machine.specs.Files.{entry_made, fs_made, fs_mounted, fs_unmounted, goes_through, made_by}
 use Rattle.fan_machine.specs.Groups.{group_closed, group_made, group_read, group_written, limit_set, max_open_groups}
 use Rattle.fan_machine.specs.Marking.{change_for, marked}
 use Rattle.fan_machine.specs.Next.{attempted, next}
-use Rattle.fan_machine.specs.Outcome.{Attempt, Outcome, ◌>>=◌, found_or, refuse_unless, settled}
-use Rattle.fan_machine.specs.World.{Batch, RetiredMark, WorldState, retired_now, with_change}
+use Rattle.fan_machine.specs.Outcome.{Attempt, Outcome, settled}
+use Rattle.fan_machine.specs.World.{Batch, RetiredMark, WorldState, changed_if, retired_now, with_change}
 use Rattle.fan_mounts.specs.declared.mount.Mount.{Mount}
 use Rattle.fan_mounts.specs.Mounts.{mounted, unmounted}
 use Rattle.fan_mounts.specs.Reaches.{names_of}
@@ -32,6 +34,8 @@ use Rattle.fan_script.specs.declared.step.OpWord.{OpWord}
 use Rattle.fan_script.specs.declared.step.Step.{Step}
 use Rattle.fan_script.specs.declared.step.Step.TheVariants as steps
 use Rattle.fan_tree.specs.Tree.{TreeState, made, made_fs}
+use Rattle.fan_laws.proofs.Attempts.{done_does, found_does, unless_does}
+use Rattle.fan_laws.proofs.Deeds.{ChangesOnce, changes_none, clears, deed_is, drops}
 
 -- an outcome by its parts
 abbrev pub told : Reply → WorldState → Outcome
@@ -42,10 +46,10 @@ abbrev pub stepped_world : ℕ → Stepped → WorldState → WorldState
 stepped_world number stepped world =
     record world { groups = stepped.groups; accesses = accesses_after number stepped world.accesses }
 
--- the marks after a change, if there is one
-abbrev pub marks_after : Option Change → List Mark → List Mark
-marks_after None marks = marks
-marks_after (Some change) marks = changed marks change
+-- the only change of the marks, if there is one
+abbrev pub only : Option Change → Option Change → Option Change
+only None last = last
+only (Some first) last = Some first
 
 -- the marks that wait then
 abbrev pub waiting_after : Option Change → ℕ → List Mark → List RetiredMark → List RetiredMark
@@ -53,23 +57,26 @@ waiting_after None last marks waiting = waiting
 waiting_after (Some change) last marks waiting = waiting ++ retired_now last (retired marks change)
 
 -- the world after the begin of an access, part by part
-abbrev pub world_begun : ℕ → Op → Place → List ℕ → ℕ → ℕ → WorldState → WorldState
-world_begun number op place name pid tid world =
-    let change = first_change op place in
-    let marks = marks_after change world.marks in
+abbrev pub world_begun : ℕ → Op → Deed → ℕ → ℕ → WorldState → WorldState
+world_begun number op deed pid tid world =
+    let change = only deed.first deed.last in
+    let view = changed_if deed.first world.marks in
     record world {
-      marks = marks;
+      tree = deed.tree;
+      marks = changed_if change world.marks;
       waiting = waiting_after change number world.marks world.waiting;
-      accesses = insert_entry nat_cmp world.accesses number (new_access op place name pid tid marks);
+      accesses = insert_entry nat_cmp world.accesses number (new_access op deed.spots pid tid view);
       last_access = number;
     }
 
-begins_parts : (number : ℕ) (op : Op) (place : Place) (name : List ℕ) (pid tid : ℕ) (world : WorldState)
-    (change : Option Change)
-    → first_change op place ≡ change
-    → world_begun number op place name pid tid world ≡ begins number op place name pid tid world
-begins_parts number op place name pid tid world None is = rw is refl
-begins_parts number op place name pid tid world (Some change) is = rw is refl
+begins_parts : (number : ℕ) (op : Op) (spots : List Spot) (first : Option Change) (tree : TreeState)
+    (last : Option Change) (pid tid : ℕ) (world : WorldState)
+    → ChangesOnce first last →
+    let deed : Deed = record { spots = spots; first = first; tree = tree; last = last } in
+    world_begun number op deed pid tid world ≡ begins number op deed pid tid world
+begins_parts number op spots first tree last pid tid world changes_none = refl
+begins_parts number op spots first tree last pid tid world (clears object) = refl
+begins_parts number op spots first tree last pid tid world (drops object) = refl
 
 -- what waits once a grace went on with a batch, or started one
 abbrev pub waiting_beside : Option Batch → List RetiredMark → List RetiredMark
@@ -122,11 +129,10 @@ pub data Form (world : WorldState) : Step → Outcome → Type 0 where
   was_marked : (group flags mask : ℕ) (path : List ℕ) (change : Change)
       → change_for world group flags mask path ≡ Ok change
       → Form world (steps.Mark group flags mask path) (told replies.Done (with_change change world))
-  has_begun : (number pid tid : ℕ) (word : OpWord) (path : List ℕ) (second : Option (List ℕ)) (op : Op)
-      (place : Place)
-      → op_of word ≡ Some op → nat_lt world.last_access number ≡ true → place_in world path ≡ Ok place
-      → Form world (steps.Begin number pid tid word path second) (told replies.Done
-      (world_begun number op place (name_by path place) pid tid world))
+  has_begun : (number pid tid : ℕ) (word : OpWord) (path : List ℕ) (second : Option (List ℕ)) (deed : Deed)
+      → nat_lt world.last_access number ≡ true → deed_of world (op_of word) path second ≡ Ok deed
+      → Form world (steps.Begin number pid tid word path second)
+      (told replies.Done (world_begun number (op_of word) deed pid tid world))
   has_stepped : (number : ℕ) (access : AccessState) → access_of world number ≡ Some access
       → Form world (steps.Advance number)
       (told (replies.Out ((access_step world.groups access).outcome ∷ []))
@@ -147,26 +153,6 @@ pub data Form (world : WorldState) : Step → Outcome → Type 0 where
 abbrev Attempts : WorldState → Step → Attempt → Type 0
 Attempts world step attempt = IfOk attempt (Form world step)
 
--- what may be refused and is done gives what is done with it
-pub done_does : {A B : Type 0} (P : B → Type 0) (tried : Result A Errno) (then : A → Result B Errno)
-    → ((given : A) → tried ≡ Ok given → IfOk (then given) P) → IfOk (tried >>= then) P
-done_does P (Ok given) then each = each given refl
-done_does P (Err errno) then each = tt
-
--- a test that isn't refused holds
-pub unless_does : {B : Type 0} (P : B → Type 0) (test : Bool) (errno : Errno) (then : Unit {0}
-    → Result B Errno)
-    → (test ≡ true → IfOk (then tt) P) → IfOk (refuse_unless test errno >>= then) P
-unless_does P true errno then each = each refl
-unless_does P false errno then each = tt
-
--- what isn't refused was found
-pub found_does : {A B : Type 0} (P : B → Type 0) (errno : Errno) (found : Option A) (then : A
-    → Result B Errno)
-    → ((given : A) → found ≡ Some given → IfOk (then given) P) → IfOk (found_or errno found >>= then) P
-found_does P errno (Some given) then each = each given refl
-found_does P errno None then each = tt
-
 file_form : (world : WorldState) (path : List ℕ) (names : List (List ℕ))
     → Attempts world (steps.MkFile path) (made_by world names false)
 file_form world path [] = tt
@@ -182,16 +168,16 @@ not_true true is = absurd cc
 not_true false is = refl
 
 -- a begin and a grace, part by part
-begin_form : (world : WorldState) (number pid tid : ℕ) (word : OpWord) (path : List ℕ) (second : Option
-    (List ℕ))
-    (op : Op) (place : Place) → op_of word ≡ Some op → nat_lt world.last_access number ≡ true
-    → place_in world path ≡ Ok place
-    → Form world (steps.Begin number pid tid word path second) (told replies.Done
-    (begins number op place (name_by path place) pid tid world))
-begin_form world number pid tid word path second op place does free here =
-    let same = begins_parts number op place (name_by path place) pid tid world (first_change op place) refl in
+begin_form : (world : WorldState) (number pid tid : ℕ) (word : OpWord) (path : List ℕ)
+    (second : Option (List ℕ)) (deed : Deed)
+    → nat_lt world.last_access number ≡ true → deed_of world (op_of word) path second ≡ Ok deed
+    → Form world (steps.Begin number pid tid word path second)
+    (told replies.Done (begins number (op_of word) deed pid tid world))
+begin_form world number pid tid word path second deed free does =
+    let once = (deed_is world (op_of word) path second deed does).once in
+    let same = begins_parts number (op_of word) deed.spots deed.first deed.tree deed.last pid tid world once in
     subst (λ new. Form world (steps.Begin number pid tid word path second) (told replies.Done new)) same
-    (has_begun number pid tid word path second op place does free here)
+    (has_begun number pid tid word path second deed free does)
 
 grace_form : (world : WorldState) → Form world steps.Grace
     (told (replies.Reclaimed (length (reclaimed world world.batch))) (started world (held world world.batch)))
@@ -213,7 +199,7 @@ attempt_form world (steps.Limit entries) = search (unless_does, limit_was_set)
 attempt_form world (steps.Init flags) = search (unless_does, was_made) depth 9
 attempt_form world (steps.Mark group flags mask path) = search (done_does, was_marked)
 attempt_form world (steps.Begin number pid tid word path second) =
-    search (found_does, unless_does, done_does, begin_form) depth 9
+    search (unless_does, done_does, begin_form) depth 9
 attempt_form world (steps.Advance number) = search (found_does, has_stepped)
 attempt_form world (steps.Read group size) = search (done_does, was_read)
 attempt_form world (steps.Write group bytes) = search (done_does, was_written)

@@ -11,7 +11,7 @@ use Rattle.fan_bits.specs.declared.change.Change.TheVariants.{DropGroup, DropObj
 use Rattle.fan_bits.specs.declared.mark.Mark.{Mark}
 use Rattle.fan_bits.specs.Marks.{retired}
 use Rattle.fan_lists.proofs.Pairs.{Contains-map}
-use Rattle.fan_machine.specs.Accesses.{access_of, first_change}
+use Rattle.fan_machine.specs.Accesses.{access_of}
 use Rattle.fan_machine.specs.Batches.{batch_of, held, is_held, reclaimed}
 use Rattle.fan_machine.specs.Next.{after, next}
 use Rattle.fan_machine.specs.Outcome.{Outcome}
@@ -20,7 +20,7 @@ use Rattle.fan_script.specs.declared.step.Step.{Step}
 use Rattle.fan_script.specs.declared.step.Step.TheVariants as steps
 use Rattle.fan_laws.specs.Reclaiming.{reclaimed_in}
 use Rattle.fan_laws.proofs.Entries.{at, found_contained}
-use Rattle.fan_laws.proofs.Forms.{Form, batch_beside, batch_ended, has_begun, step_form, waiting_after, waiting_beside, was_closed, was_marked, was_unmounted}
+use Rattle.fan_laws.proofs.Forms.{Form, batch_beside, batch_ended, has_begun, only, step_form, waiting_after, waiting_beside, was_closed, was_marked, was_unmounted}
 use Rattle.fan_laws.proofs.Numbers.{AreNumbered, last_form, none_form, numbered_at_first, numbered_form}
 use Rattle.fan_laws.proofs.Reclaimed.{free_reclaimed, none_open}
 
@@ -155,11 +155,11 @@ dated_form world step outcome (was_marked group flags mask path change is) numbe
           (omega arith) dated.waiting;
       batch = λ batch under. tied_form batch world step outcome form (dated.batch batch under);
     }
-dated_form world step outcome (has_begun number pid tid word path second op place does free here) numbered
+dated_form world step outcome (has_begun number pid tid word path second deed free does) numbered
     dated =
-    let form = has_begun number pid tid word path second op place does free here in
+    let form = has_begun number pid tid word path second deed free does in
     let above : world.last_access < number = ltb-true world.last_access number free in record {
-      waiting = until_begun world.last_access number (first_change op place) world.marks world.waiting
+      waiting = until_begun world.last_access number (only deed.first deed.last) world.marks world.waiting
           (omega arith)
           dated.waiting;
       batch = λ batch under. tied_form batch world step outcome form (dated.batch batch under);

@@ -1,8 +1,11 @@
 pub mod Ahead
+pub mod Attempts
+pub mod Deeds
 pub mod Due
 pub mod Entries
 pub mod Freed
 pub mod Forms
+pub mod Later
 pub mod Listeners
 pub mod Moves
 pub mod Numbers
@@ -11,6 +14,7 @@ pub mod Reclaimed
 pub mod Marked
 pub mod Few
 pub mod Mounted
+pub mod Removals
 pub mod RunsEnd
 pub mod Whole
 pub mod FileTrees

@@ -23,7 +23,7 @@ use Rattle.fan_listener.specs.ListenerState.{ListenerState}
 use Rattle.fan_machine.specs.Marking.{allowed, change_by, change_for, is_flush, put_on as put_at}
 use Rattle.fan_machine.specs.World.{WorldState}
 use Rattle.fan_laws.specs.Whole.{AreApart, IsOpenOf}
-use Rattle.fan_laws.proofs.Forms.{done_does, found_does, unless_does}
+use Rattle.fan_laws.proofs.Attempts.{done_does, found_does, unless_does}
 
 -- ---- one change
 

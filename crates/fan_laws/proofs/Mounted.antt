@@ -1,5 +1,5 @@
 -- The mount of what a path reaches is there, and stays there while an access was begun through it.
-use Rattle.std.proofs.Common.{◌≡◌, ◌∙◌, ℕ, Bool, true, false, cond, List, [], ◌∷◌, ◌++◌, Option, Some, None, Result, Ok, Err, refl, sym, ap, subst, not, get_or, reverse}
+use Rattle.std.proofs.Common.{◌≡◌, ◌∙◌, ℕ, Bool, true, false, cond, List, [], ◌∷◌, ◌++◌, Option, Some, None, Result, Ok, Err, refl, sym, ap, subst, not, get_or}
 use Rattle.std.proofs.lemmas.Bool.{cond_both, eq-eqb, eqb-true, ne_eqb}
 use Rattle.std.proofs.lemmas.List.Folds.{list_any_at}
 use Rattle.std.specs.Prelude.{◌==◌, All, IfOk, IfSome, filter, find, is_none, is_some}
@@ -7,11 +7,9 @@ use Rattle.fan_bits.specs.declared.errno.Errno.{Errno}
 use Rattle.fan_bits.specs.declared.errno.Errno.TheVariants as errno
 use Rattle.fan_bits.specs.declared.place.Place.{Place}
 use Rattle.fan_lists.proofs.Finds.{IfSome-find, is_some-find}
-use Rattle.fan_machine.specs.Files.{place_in}
-use Rattle.fan_machine.specs.World.{WorldState}
 use Rattle.fan_mounts.specs.declared.mount.Mount.{Mount}
 use Rattle.fan_mounts.specs.Mounts.{carries, is_at, mount_at, mount_of, mounted, root_mount, unmounted, with_mount}
-use Rattle.fan_mounts.specs.Reaches.{crossed, entered, names_of, over, place_of, reached, root_place, shown}
+use Rattle.fan_mounts.specs.Reaches.{crossed, entered, over, reached, root_place, shown}
 use Rattle.fan_tree.specs.Tree.{Inode, TreeState, drawn, entry_of, root_of}
 
 module _ (tree : TreeState) (mounts : List Mount) where
@@ -73,13 +71,12 @@ module _ (tree : TreeState) (mounts : List Mount) where
       (λ mount. mount.number == root_mount))
   reached_there (last ∷ before) = entered_there (reached tree mounts before) last (reached_there before)
 
--- what a path reaches is reached through a mount that is there
-pub place_there : (world : WorldState) (path : List ℕ) (place : Place) → place_in world path ≡ Ok place
-    → is_some (mount_of world.mounts place.mount) ≡ true
-unfolding place_of
-place_there world path place is =
-    subst (λ r. IfOk r (λ place. is_some (mount_of world.mounts place.mount) ≡ true)) is
-    (reached_there world.tree world.mounts (reverse (names_of path)))
+-- what names reach is reached through a mount that is there
+pub reached_mount : (tree : TreeState) (mounts : List Mount) (names : List (List ℕ)) (place : Place)
+    → reached tree mounts names ≡ Ok place → is_some (mount_of mounts place.mount) ≡ true
+reached_mount tree mounts names place is =
+    subst (λ r. IfOk r (λ place. is_some (mount_of mounts place.mount) ≡ true)) is
+    (reached_there tree mounts names)
 
 find_longer : (test : Mount → Bool) (xs ys : List Mount) → is_some (find test xs) ≡ true
     → is_some (find test (xs ++ ys)) ≡ true

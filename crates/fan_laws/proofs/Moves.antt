@@ -2,7 +2,7 @@
 use Rattle.std.proofs.Common.{◌≡◌, ◌∙◌, ℕ, true, false, cond, List, [], ◌∷◌, ◌++◌, Option, Some, None, Result, Ok, Err, refl, ap, subst}
 use Rattle.std.specs.Prelude.{count_by, nat_lt, option_map, slice_get}
 use Rattle.fan_access.specs.Access.{AccessState, Asking, Phase, Telling, Waiting, access_step, asks, asks_next, event_of, step_at, tells, tells_next}
-use Rattle.fan_access.specs.declared.turn.Turn.{Turn}
+use Rattle.fan_access.specs.Rounds.{Turn}
 use Rattle.fan_bits.specs.declared.errno.Errno.{Errno}
 use Rattle.fan_listener.specs.declared.answers.Answer.TheVariants as answers
 use Rattle.fan_listener.specs.declared.answers.Answered.{Answered}

@@ -29,7 +29,7 @@ none_stepped number other false access accesses none = none_set number other acc
 -- the greatest number of an access never falls
 pub last_form : (world : WorldState) (step : Step) (outcome : Outcome) → Form world step outcome
     → world.last_access ≤ outcome.world.last_access
-last_form world step outcome (has_begun number pid tid word path second op place does free here) =
+last_form world step outcome (has_begun number pid tid word path second deed free does) =
     let above : world.last_access < number = ltb-true world.last_access number free in omega arith
 last_form world step outcome form = omega arith
 
@@ -37,7 +37,7 @@ last_form world step outcome form = omega arith
 pub none_form : (number : ℕ) (world : WorldState) (step : Step) (outcome : Outcome) → Form world step outcome
     → number ≤ world.last_access → access_of world number ≡ None → access_of outcome.world number ≡ None
 none_form number world step outcome
-    (has_begun other pid tid word path second op place does free here) upto none =
+    (has_begun other pid tid word path second deed free does) upto none =
     let above : world.last_access < other = ltb-true world.last_access other free in
     other_inserted number other _ world.accesses (λ same. omega arith) ∙ none
 none_form number world step outcome (has_stepped other access is) upto none =
@@ -69,7 +69,7 @@ pub record AreNumbered (world : WorldState) : Type 0 where
 pub numbered_form : (world : WorldState) (step : Step) (outcome : Outcome) → Form world step outcome
     → AreNumbered world → AreNumbered outcome.world
 numbered_form world step outcome
-    (has_begun number pid tid word path second op place does free here) numbered =
+    (has_begun number pid tid word path second deed free does) numbered =
     let above : world.last_access < number = ltb-true world.last_access number free in record {
       rise = Rise-inserted number _ world.accesses
           (All-weaker (λ (e : ℕ × AccessState). e.0 ≤ world.last_access) (λ e. e.0 < number)

@@ -4,22 +4,20 @@ use Rattle.std.proofs.Common.{drop, ◌≡◌, ◌∙◌, ℕ, ◌<◌, ◌≤�
 use Rattle.std.proofs.lemmas.Bool.{cond_both, eqb-true, eqb-false, ltb-true}
 use Rattle.std.proofs.lemmas.List.{append-nil}
 use Rattle.std.specs.Map.{remove_entry, set_value}
-use Rattle.std.specs.Prelude.{IfSome, MatchBool, MatchOption, filter, is_none}
+use Rattle.std.specs.Prelude.{IfSome, MatchBool, filter, is_none}
 use Rattle.fan_access.specs.Access.{AccessState, Asking, Phase, Stepped, Telling, Waiting, access_step, asks, tells}
 use Rattle.fan_access.specs.declared.op.Op.{Op}
-use Rattle.fan_access.specs.declared.turn.Turn.{Turn}
+use Rattle.fan_access.specs.Rounds.{Turn}
 use Rattle.fan_bits.specs.declared.change.Change.{Change}
 use Rattle.fan_bits.specs.declared.errno.Errno.{Errno}
 use Rattle.fan_bits.specs.declared.outcome.StepOutcome.{StepOutcome}
-use Rattle.fan_bits.specs.declared.place.Place.{Place}
 use Rattle.fan_bits.specs.declared.mark.Mark.{Mark}
-use Rattle.fan_bits.specs.Marks.{changed}
 use Rattle.fan_bits.specs.Outcomes.{ends_access, settles}
-use Rattle.fan_machine.specs.Accesses.{access_of, first_change, name_by, op_of}
-use Rattle.fan_machine.specs.Files.{place_in}
+use Rattle.fan_machine.specs.Accesses.{access_of, op_of}
+use Rattle.fan_machine.specs.Deeds.{Deed, deed_of}
 use Rattle.fan_machine.specs.Next.{after, next}
 use Rattle.fan_machine.specs.Outcome.{Outcome}
-use Rattle.fan_machine.specs.World.{WorldState}
+use Rattle.fan_machine.specs.World.{WorldState, changed_if}
 use Rattle.fan_script.specs.declared.reply.Reply.TheVariants as replies
 use Rattle.fan_script.specs.declared.step.OpWord.{OpWord}
 use Rattle.fan_script.specs.declared.step.Step.{Step}
@@ -27,7 +25,8 @@ use Rattle.fan_script.specs.declared.step.Step.TheVariants as steps
 use Rattle.fan_laws.specs.InOrder.{AsksThenTells, Begin, IsStill, TellsInOrder, begun_access, begun_world, outcomes_of, settled_by, settled_in}
 use Rattle.fan_laws.proofs.Ahead.{Ahead, Goes, IsSteady, in_phase, step_goes, step_same}
 use Rattle.fan_laws.proofs.Entries.{at, found_inserted, found_set, none_taken, other_inserted, other_removed, other_set}
-use Rattle.fan_laws.proofs.Forms.{Form, has_begun, has_stepped, marks_after, refused, step_form, stepped_world, world_begun}
+use Rattle.fan_laws.proofs.Deeds.{ChangesOnce, changes_none, clears, deed_is, drops}
+use Rattle.fan_laws.proofs.Forms.{Form, has_begun, has_stepped, only, refused, step_form, stepped_world, world_begun}
 use Rattle.fan_laws.proofs.Numbers.{AreNumbered, last_form, none_after, none_form, numbered_form}
 
 -- what a refused step settles: nothing
@@ -139,9 +138,9 @@ module _ (number : ℕ) (access : AccessState) where
   turned_form phase world step outcome (refused _ errno is) numbered used steady found =
       rw (refused_settles number step errno) (stays phase world steady found)
   turned_form phase world step outcome
-      (has_begun other pid tid word path second op place does free here) numbered used steady found =
+      (has_begun other pid tid word path second deed free does) numbered used steady found =
       let above : world.last_access < other = ltb-true world.last_access other free in
-      stays phase (world_begun other op place (name_by path place) pid tid world) steady
+      stays phase (world_begun other (op_of word) deed pid tid world) steady
       (other_inserted number other _ world.accesses (λ same. omega arith) ∙ found)
   turned_form phase world step outcome (has_stepped other its is) numbered used steady found =
       turned_stepped phase other its world numbered steady found is
@@ -200,32 +199,50 @@ module _ (number : ℕ) (access : AccessState) where
       (omega (arith, used, rises)) steady_left found_left)
 
 -- a begin that was done made the world so, by a number above all before it
-record HasBegun (world : WorldState) (number pid tid : ℕ) (op : Op) (place : Place) (name : List ℕ)
-    (new : WorldState) : Type 0 where
-  above : world.last_access < number
-  is : new ≡ world_begun number op place name pid tid world
+pub record HasBegun (world : WorldState) (number pid tid : ℕ) (op : Op) (deed : Deed) (new : WorldState)
+    : Type 0 where
+  pub above : world.last_access < number
+  pub once : ChangesOnce deed.first deed.last
+  pub is : new ≡ world_begun number op deed pid tid world
 
-begun_form : (world : WorldState) (number pid tid : ℕ) (word : OpWord) (path : List ℕ) (second : Option
-    (List ℕ))
-    (op : Op) (place : Place) (outcome : Outcome) → Form world
-    (steps.Begin number pid tid word path second) outcome
-    → outcome.reply ≡ replies.Done → op_of word ≡ Some op → place_in world path ≡ Ok place
-    → HasBegun world number pid tid op place (name_by path place) outcome.world
-begun_form world number pid tid word path second op place outcome
-    (refused _ errno is) done does here = absurd cc
-begun_form world number pid tid word path second op place outcome
-    (has_begun _ _ _ _ _ _ its there knows free reaches) done does here =
-    let same : its ≡ op = cc in
-    let at_place : there ≡ place = cc in
-    record { above = ltb-true world.last_access number free; is = rw (same, at_place) refl }
+begun_form : (world : WorldState) (number pid tid : ℕ) (word : OpWord) (path : List ℕ)
+    (second : Option (List ℕ)) (deed : Deed) (outcome : Outcome)
+    → Form world (steps.Begin number pid tid word path second) outcome
+    → outcome.reply ≡ replies.Done → deed_of world (op_of word) path second ≡ Ok deed
+    → HasBegun world number pid tid (op_of word) deed outcome.world
+begun_form world number pid tid word path second deed outcome (refused _ errno is) done does = absurd cc
+begun_form world number pid tid word path second deed outcome
+    (has_begun _ _ _ _ _ _ its free told) done does =
+    let same : its ≡ deed = cc in
+    record {
+      above = ltb-true world.last_access number free;
+      once = (deed_is world (op_of word) path second deed does).once;
+      is = rw same refl;
+    }
 
-begun_is : (world : WorldState) (number : ℕ) (begin : Begin world number)
-    → HasBegun world number begin.pid begin.tid begin.op begin.place (name_by begin.path begin.place)
-    (begun_world world number begin)
+pub begun_is : (world : WorldState) (number : ℕ) (begin : Begin world number)
+    → HasBegun world number begin.pid begin.tid (op_of begin.word) begin.deed (begun_world world number begin)
 begun_is world number begin =
     let step = steps.Begin number begin.pid begin.tid begin.word begin.path begin.second in
-    begun_form world number begin.pid begin.tid begin.word begin.path begin.second begin.op begin.place
-    (next world step) (step_form world step) begin.done begin.does begin.here
+    begun_form world number begin.pid begin.tid begin.word begin.path begin.second begin.deed
+    (next world step) (step_form world step) begin.done begin.does
+
+-- any begin that was done has a deed
+deed_form : (world : WorldState) (number pid tid : ℕ) (word : OpWord) (path : List ℕ)
+    (second : Option (List ℕ)) (outcome : Outcome)
+    → Form world (steps.Begin number pid tid word path second) outcome → outcome.reply ≡ replies.Done
+    → (deed : Deed) × (deed_of world (op_of word) path second ≡ Ok deed)
+deed_form world number pid tid word path second outcome (refused _ errno is) done = absurd cc
+deed_form world number pid tid word path second outcome (has_begun _ _ _ _ _ _ deed free does) done =
+    (deed, does)
+
+pub does_deed : (world : WorldState) (number pid tid : ℕ) (word : OpWord) (path : List ℕ)
+    (second : Option (List ℕ))
+    → (next world (steps.Begin number pid tid word path second)).reply ≡ replies.Done
+    → (deed : Deed) × (deed_of world (op_of word) path second ≡ Ok deed)
+does_deed world number pid tid word path second done =
+    let step = steps.Begin number pid tid word path second in
+    deed_form world number pid tid word path second (next world step) (step_form world step) done
 
 -- the access that begins is there after it
 pub found_begun : (world : WorldState) (number : ℕ) (begin : Begin world number)
@@ -248,16 +265,17 @@ runs_begun world number begin later numbered =
     (numbered_form world step (next world step) (step_form world step) numbered) used tt
     (found_begun world number begin)
 
-marks_by : (change : Option Change) (old new : List Mark) → new ≡ marks_after change old
-    → MatchOption change (new ≡ old) (λ change. new ≡ changed old change)
-marks_by None old new is = is
-marks_by (Some change) old new is = is
+only_changes : (first last : Option Change) (marks : List Mark) → ChangesOnce first last
+    → changed_if (only first last) marks ≡ changed_if last (changed_if first marks)
+only_changes first last marks changes_none = refl
+only_changes first last marks (clears object) = refl
+only_changes first last marks (drops object) = refl
 
--- and its first change is all that becomes of the marks
-pub marks_begun : (world : WorldState) (number : ℕ) (begin : Begin world number) →
-    let new = (begun_world world number begin).marks in
-    MatchOption (first_change begin.op begin.place) (new ≡ world.marks) (λ change. new
-    ≡ changed world.marks change)
+-- and its changes are all that becomes of the marks
+pub marks_begun : (world : WorldState) (number : ℕ) (begin : Begin world number)
+    → (begun_world world number begin).marks
+    ≡ changed_if begin.deed.last (changed_if begin.deed.first world.marks)
 marks_begun world number begin =
-    marks_by (first_change begin.op begin.place) world.marks (begun_world world number begin).marks
-    (ap (λ (w : WorldState). w.marks) (begun_is world number begin).is)
+    let begun = begun_is world number begin in
+    ap (λ (w : WorldState). w.marks) begun.is
+    ∙ only_changes begin.deed.first begin.deed.last world.marks begun.once

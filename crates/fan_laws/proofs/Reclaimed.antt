@@ -16,16 +16,16 @@ use Rattle.fan_bits.specs.declared.mark.Mark.{Mark}
 use Rattle.fan_bits.specs.Marks.{changed, gone, retired, same_kind, same_mark}
 use Rattle.fan_bits.specs.Words.{rank_of}
 use Rattle.fan_lists.proofs.Filters.{filter_none}
-use Rattle.fan_machine.specs.Accesses.{access_of, first_change}
+use Rattle.fan_machine.specs.Accesses.{access_of}
 use Rattle.fan_machine.specs.Batches.{batch_of, graced, held, is_held, reclaimed, started}
 use Rattle.fan_machine.specs.Next.{after, attempted, next}
 use Rattle.fan_machine.specs.Outcome.{Outcome}
-use Rattle.fan_machine.specs.World.{Batch, RetiredMark, WorldState, retired_now}
+use Rattle.fan_machine.specs.World.{Batch, RetiredMark, WorldState, changed_if, retired_now}
 use Rattle.fan_script.specs.declared.reply.Reply.TheVariants as replies
 use Rattle.fan_script.specs.declared.step.Step.{Step}
 use Rattle.fan_script.specs.declared.step.Step.TheVariants as steps
 use Rattle.fan_laws.specs.Reclaiming.{marks_in, pending, reclaimed_in, reclaims, retired_in, retirements}
-use Rattle.fan_laws.proofs.Forms.{Form, batch_beside, batch_ended, graced_is, graced_world, has_begun, marks_after, refused, step_form, waiting_after, waiting_beside, was_closed, was_marked, was_unmounted}
+use Rattle.fan_laws.proofs.Forms.{Form, batch_beside, batch_ended, graced_is, graced_world, has_begun, only, refused, step_form, waiting_after, waiting_beside, was_closed, was_marked, was_unmounted}
 
 kind_itself : (kind : Kind) → same_kind kind kind ≡ true
 kind_itself kinds.Inode = refl
@@ -70,9 +70,9 @@ unfolding retired
 change_waits front waiting marks change last =
     append_assoc front waiting (retired_now last (gone marks (changed marks change)))
 
--- so does what the change with which an access begins retires, if there is one
+-- so does what the change at the begin of an access retires, if there is one
 begin_waits : (front waiting : List RetiredMark) (marks : List Mark) (change : Option Change) (last : ℕ)
-    → (front ++ waiting) ++ retired_now last (gone marks (marks_after change marks))
+    → (front ++ waiting) ++ retired_now last (gone marks (changed_if change marks))
     ≡ front ++ waiting_after change last marks waiting
 begin_waits front waiting marks None last = nothing_waits (front ++ waiting) marks last
 begin_waits front waiting marks (Some change) last = change_waits front waiting marks change last
@@ -114,8 +114,8 @@ reclaims_form world step outcome (was_unmounted path at left unused is) =
     change_waits (marks_in world.batch) world.waiting world.marks (DropObject at.mount) world.last_access
 reclaims_form world step outcome (was_marked group flags mask path change is) =
     change_waits (marks_in world.batch) world.waiting world.marks change world.last_access
-reclaims_form world step outcome (has_begun number pid tid word path second op place does free here) =
-    begin_waits (marks_in world.batch) world.waiting world.marks (first_change op place) number
+reclaims_form world step outcome (has_begun number pid tid word path second deed free does) =
+    begin_waits (marks_in world.batch) world.waiting world.marks (only deed.first deed.last) number
 reclaims_form world step outcome (was_closed group closed is) =
     change_waits (marks_in world.batch) world.waiting world.marks (DropGroup group) world.last_access
 reclaims_form world step outcome batch_ended =

@@ -4,7 +4,7 @@ use Rattle.std.proofs.lemmas.Option.{slice_get_within}
 use Rattle.std.specs.Bool.{OnFalse}
 use Rattle.std.specs.Prelude.{slice_get}
 use Rattle.fan_access.specs.Access.{AccessState, Asking, Phase, Telling, Waiting, access_step, after_answer, after_ask, answered_outcome, asked_outcome, asks, asks_next, event_of, tells, tells_next, told_outcome}
-use Rattle.fan_access.specs.declared.turn.Turn.{Turn}
+use Rattle.fan_access.specs.Rounds.{Turn}
 use Rattle.fan_bits.specs.declared.errno.Errno.TheVariants as errno
 use Rattle.fan_bits.specs.declared.outcome.StepOutcome.{StepOutcome}
 use Rattle.fan_bits.specs.declared.outcome.StepOutcome.TheVariants as outcomes
@@ -121,9 +121,9 @@ some_work access (Waiting at group entry) (turn, is, same) upto =
     let within = slice_get_within (asks access) at turn is in omega (arith, within)
 some_work access (Telling at) steady upto = omega arith
 
--- and never more than 128 groups give
-few_work : (access : AccessState) (phase : Phase) → length (asks access) ≤ 128 → length (tells access) ≤ 128
-    → work access phase ≤ 385
+-- and never more than two rounds of asks and one of tells give
+few_work : (access : AccessState) (phase : Phase) → length (asks access) ≤ 256
+    → length (asks access) + length (tells access) ≤ 384 → work access phase ≤ 641
 unfolding work
 few_work access (Asking at) asked told = omega arith
 few_work access (Waiting at group entry) asked told = omega arith
@@ -207,8 +207,8 @@ whole_run all number None none = refused_alone number (after initial_world all) 
 whole_run all number (Some access) found =
     let world = after initial_world all in
     let its = found_each world.mounts number access world.accesses (sound_from_first all).accesses found in
-    ends_once number access 385 access.phase world (steady world.mounts access its)
-    (few_work access access.phase its.few_asks its.few_tells) found
+    ends_once number access 641 access.phase world (steady world.mounts access its)
+    (few_work access access.phase its.few_asks its.few) found
 
 -- after any steps a run ends
 pub run_ends : (all : List Step) (number : ℕ) →

@@ -1,5 +1,5 @@
 -- What holds of every world: of the first one, and of any after a step.
-use Rattle.std.proofs.Common.{◌≡◌, ℕ, ◌+◌, ◌<◌, ◌≤◌, Bool, true, false, List, [], ◌∷◌, ◌++◌, Some, refl, sym, subst, arith, not, get_or}
+use Rattle.std.proofs.Common.{◌≡◌, ℕ, ◌+◌, ◌<◌, ◌≤◌, Bool, true, false, List, [], ◌∷◌, ◌++◌, Option, Some, refl, sym, subst, arith, not, get_or}
 use Rattle.std.proofs.lemmas.Bool.{cond_both, eq-eqb}
 use Rattle.std.proofs.lemmas.List.Elements.{All-contains, All-map, All-nil, All-weaker, filter_passes}
 use Rattle.std.proofs.lemmas.List.Folds.{list_any_at}
@@ -7,37 +7,38 @@ use Rattle.std.specs.List.{AllPairs, list_any}
 use Rattle.std.specs.List.Sorted.{IsStrictlyIncreasing}
 use Rattle.std.specs.Map.{keys_of, lookup, remove_entry, set_value}
 use Rattle.std.specs.Prelude.{◌==◌, All, count_by, filter, is_some, slice_get}
-use Rattle.fan_access.specs.Access.{AccessState, Phase, Waiting, access_step, asks}
+use Rattle.fan_access.specs.Access.{AccessState, Phase, Waiting, access_step, asks, new_access}
 use Rattle.fan_access.specs.declared.op.Op.{Op}
-use Rattle.fan_access.specs.declared.op.Op.TheVariants as ops
-use Rattle.fan_access.specs.declared.turn.Turn.{Turn}
+use Rattle.fan_access.specs.Operations.{first_mount}
+use Rattle.fan_access.specs.Rounds.{Turn}
 use Rattle.fan_bits.specs.declared.change.Change.{Change}
-use Rattle.fan_bits.specs.declared.change.Change.TheVariants.{DropGroup, DropObject}
+use Rattle.fan_bits.specs.declared.change.Change.TheVariants.{Clear, DropGroup, DropObject}
 use Rattle.fan_bits.specs.declared.mark.Mark.{Mark}
-use Rattle.fan_bits.specs.declared.place.Place.{Place}
 use Rattle.fan_bits.specs.Marks.{Rises, changed, stands}
 use Rattle.fan_bits.specs.Outcomes.{ends_access}
 use Rattle.fan_lists.proofs.Pairs.{AllPairs-map}
 use Rattle.fan_listener.specs.Groups.{is_open}
 use Rattle.fan_listener.specs.ListenerState.{ListenerState, new_listener}
 use Rattle.fan_listener.specs.Responses.{closed_of}
-use Rattle.fan_machine.specs.Accesses.{first_change, name_by}
+use Rattle.fan_machine.specs.Accesses.{op_of}
+use Rattle.fan_machine.specs.Deeds.{Deed}
 use Rattle.fan_machine.specs.Files.{goes_through}
 use Rattle.fan_machine.specs.Groups.{max_open_groups}
 use Rattle.fan_machine.specs.Next.{after, next}
 use Rattle.fan_machine.specs.Outcome.{Outcome}
-use Rattle.fan_machine.specs.World.{WorldState, initial_world}
+use Rattle.fan_machine.specs.World.{WorldState, changed_if, initial_world}
 use Rattle.fan_mounts.specs.declared.mount.Mount.{Mount}
 use Rattle.fan_mounts.specs.Mounts.{mount_of}
 use Rattle.fan_script.specs.declared.step.Step.{Step}
 use Rattle.fan_laws.specs.Whole.{IsAccess, IsOpenOf, IsQueue, IsWhole}
 use Rattle.fan_laws.proofs.Ahead.{IsSteady, in_phase, step_goes, step_same}
 use Rattle.fan_laws.proofs.Entries.{All-inserted, All-removed, All-set, at, found_contained}
-use Rattle.fan_laws.proofs.Few.{few_asked, few_told}
-use Rattle.fan_laws.proofs.Forms.{Form, has_begun, has_stepped, marks_after, step_form, was_closed, was_made, was_marked, was_mounted, was_read, was_unmounted, was_written, world_begun}
+use Rattle.fan_laws.proofs.Deeds.{ChangesOnce, IsDeed, changes_none, clears, deed_is, drops}
+use Rattle.fan_laws.proofs.Few.{few_rounds}
+use Rattle.fan_laws.proofs.Forms.{Form, has_begun, has_stepped, only, step_form, was_closed, was_made, was_marked, was_mounted, was_read, was_unmounted, was_written}
 use Rattle.fan_laws.proofs.Listeners.{Numbered, moves_few, moves_numbered, open_beside, open_called, open_pushed, queue_is}
 use Rattle.fan_laws.proofs.Marked.{AreOpenOf, IsAllowed, allowed_class, apart, change_allowed, changed_open, changed_rises, changed_stand}
-use Rattle.fan_laws.proofs.Mounted.{mounted_stay, place_there, unmounted_stay}
+use Rattle.fan_laws.proofs.Mounted.{mounted_stay, unmounted_stay}
 use Rattle.fan_laws.proofs.Moves.{Calls, closed_is, read_calls, step_calls, step_moves, written_calls}
 use Rattle.fan_laws.proofs.Numbers.{AreNumbered, numbered_at_first, numbered_form}
 
@@ -46,11 +47,20 @@ data Changes (groups : List ListenerState) (old : List Mark) : List Mark → Typ
   none : Changes groups old old
   one_change : (change : Change) → IsAllowed groups change → Changes groups old (changed old change)
 
-first_allowed : (groups : List ListenerState) (op : Op) (place : Place) (marks : List Mark)
-    → Changes groups marks (marks_after (first_change op place) marks)
+-- what an operation does to them is so, and so is what it does before its access takes its view
+once_allowed : (groups : List ListenerState) (first last : Option Change) (marks : List Mark)
+    → ChangesOnce first last → Changes groups marks (changed_if (only first last) marks)
 unfolding IsAllowed
-first_allowed groups ops.Opens place marks = none
-first_allowed groups ops.Writes place marks = one_change _ tt
+once_allowed groups first last marks changes_none = none
+once_allowed groups first last marks (clears object) = one_change (Clear object) tt
+once_allowed groups first last marks (drops object) = one_change (DropObject object) tt
+
+first_allowed : (groups : List ListenerState) (first last : Option Change) (marks : List Mark)
+    → ChangesOnce first last → Changes groups marks (changed_if first marks)
+unfolding IsAllowed
+first_allowed groups first last marks changes_none = none
+first_allowed groups first last marks (clears object) = one_change (Clear object) tt
+first_allowed groups first last marks (drops object) = none
 
 step_changes : (world : WorldState) (step : Step) (outcome : Outcome) → Form world step outcome
     → Changes world.groups world.marks outcome.world.marks
@@ -58,8 +68,9 @@ unfolding IsAllowed
 step_changes world step outcome (was_unmounted path at left unused is) = one_change (DropObject at.mount) tt
 step_changes world step outcome (was_marked group flags mask path change is) =
     one_change change (change_allowed world group flags mask path change is)
-step_changes world step outcome (has_begun number pid tid word path second op place does free here) =
-    first_allowed world.groups op place world.marks
+step_changes world step outcome (has_begun number pid tid word path second deed free does) =
+    once_allowed world.groups deed.first deed.last world.marks
+    (deed_is world (op_of word) path second deed does).once
 step_changes world step outcome (was_closed group closed is) = one_change (DropGroup group) tt
 step_changes world step outcome form = none
 
@@ -168,7 +179,8 @@ access_stepped mounts groups access its =
     let goes = step_goes access groups access.phase (steady mounts access its) in
     let new : IsAccess mounts (in_phase access left) = record {
       few_asks = its.few_asks;
-      few_tells = its.few_tells;
+      few = its.few;
+      spots = its.spots;
       waits = access_steady access left goes.steady;
       mounted = its.mounted;
     } in
@@ -176,10 +188,11 @@ access_stepped mounts groups access its =
 
 -- and other mounts, if its own is there
 access_mounted : (old new : List Mount) (access : AccessState) → IsAccess old access
-    → is_some (mount_of new access.place.mount) ≡ true → IsAccess new access
+    → is_some (mount_of new (first_mount access.spots)) ≡ true → IsAccess new access
 access_mounted old new access its there = record {
   few_asks = its.few_asks;
-  few_tells = its.few_tells;
+  few = its.few;
+  spots = its.spots;
   waits = its.waits;
   mounted = there;
 }
@@ -203,18 +216,34 @@ found_each mounts number access accesses each is =
 -- no open access goes through a mount that is taken away
 unused_differs : (accesses : List (ℕ × AccessState)) (mount : ℕ) → list_any (goes_through mount) accesses
     ≡ false
-    → All (λ e. e.1.place.mount ≡ mount → ⊥) accesses
+    → All (λ e. first_mount e.1.spots ≡ mount → ⊥) accesses
 unused_differs accesses mount unused k d within same =
     let entry = get_or accesses k d in
     let used = list_any_at (goes_through mount) accesses k d within
-    (eq-eqb entry.1.place.mount mount same) in absurd cc
+    (eq-eqb (first_mount entry.1.spots) mount same) in absurd cc
+
+-- an access at its begin
+access_begun : (world : WorldState) (op : Op) (deed : Deed) (pid tid : ℕ) → IsSound world → IsDeed world op deed
+    → IsAccess world.mounts (new_access op deed.spots pid tid (changed_if deed.first world.marks))
+access_begun world op deed pid tid sound its =
+    let view = changed_if deed.first world.marks in
+    let marks = changes_marks world.groups world.marks view
+    (first_allowed world.groups deed.first deed.last world.marks its.once) sound.marks in
+    let few = few_rounds world.groups view marks.of_groups op deed.spots sound.few in
+    record {
+      few_asks = few.0;
+      few = few.1;
+      spots = its.spots;
+      waits = λ at group entry is. absurd cc;
+      mounted = its.mounted;
+    }
 
 accesses_form : (world : WorldState) (step : Step) (outcome : Outcome) → Form world step outcome
     → IsSound world → All (λ e. IsAccess outcome.world.mounts e.1) outcome.world.accesses
 accesses_form world step outcome (was_mounted fs path at new is) sound =
     All-weaker (λ e. IsAccess world.mounts e.1) (λ e. IsAccess new.2 e.1)
     (λ e its. access_mounted world.mounts new.2 e.1 its
-    (mounted_stay world.tree world.mounts fs at new is e.1.place.mount its.mounted)) world.accesses
+    (mounted_stay world.tree world.mounts fs at new is (first_mount e.1.spots) its.mounted)) world.accesses
     sound.accesses
 accesses_form world step outcome (was_unmounted path at left unused is) sound =
     λ k d within.
@@ -222,20 +251,10 @@ accesses_form world step outcome (was_unmounted path at left unused is) sound =
     let its = sound.accesses k d within in
     let differs = unused_differs world.accesses at.mount unused k d within in
     access_mounted world.mounts left e.1 its
-    (rw (unmounted_stay world.mounts left at.mount is e.1.place.mount differs) its.mounted)
-accesses_form world step outcome (has_begun number pid tid word path second op place does free here) sound =
-    let form = has_begun number pid tid word path second op place does free here in
-    let new = world_begun number op place (name_by path place) pid tid world in
-    let marks = marks_form world step (record { reply = outcome.reply; world = new }) form sound.marks in
-    let few = sound.few in
-    let asked = few_asked world.groups new.marks marks.of_groups op place in
-    let told = few_told world.groups new.marks marks.of_groups op place in
-    All-inserted (λ e. IsAccess world.mounts e.1) number _ world.accesses sound.accesses (record {
-      few_asks = omega (arith, few, asked);
-      few_tells = omega (arith, few, told);
-      waits = λ at group entry is. absurd cc;
-      mounted = place_there world path place here;
-    })
+    (rw (unmounted_stay world.mounts left at.mount is (first_mount e.1.spots) differs) its.mounted)
+accesses_form world step outcome (has_begun number pid tid word path second deed free does) sound =
+    All-inserted (λ e. IsAccess world.mounts e.1) number _ world.accesses sound.accesses
+    (access_begun world (op_of word) deed pid tid sound (deed_is world (op_of word) path second deed does))
 accesses_form world step outcome (has_stepped number access is) sound =
     let stepped = access_step world.groups access in
     let P : ℕ × AccessState → Type 0 = λ e. IsAccess world.mounts e.1 in

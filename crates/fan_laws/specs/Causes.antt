@@ -1,7 +1,7 @@
 -- Why a single step of an access has the outcome that it has.
 use Rattle.std.specs.Prelude.{◌≡◌, ◌⊎◌, ℕ, Bool, true, false, List, Option, Some, None, is_some, slice_get}
 use Rattle.fan_access.specs.Access.{AccessState, Asking, Telling, Waiting, asks, event_of, tells}
-use Rattle.fan_access.specs.declared.turn.Turn.{Turn}
+use Rattle.fan_access.specs.Rounds.{Turn}
 use Rattle.fan_bits.specs.declared.outcome.StepOutcome.{StepOutcome}
 use Rattle.fan_bits.specs.declared.outcome.StepOutcome.TheVariants as outcomes
 use Rattle.fan_listener.specs.declared.answers.Verdict.{Verdict}

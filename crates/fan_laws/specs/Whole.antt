@@ -1,10 +1,11 @@
 -- What holds of the machine after any steps.
-use Rattle.std.specs.Prelude.{◌≡◌, ◌≢◌, ℕ, ◌<◌, ◌≤◌, true, List, Some, All, count_by, is_some, length, map, slice_get}
+use Rattle.std.specs.Prelude.{◌≡◌, ◌≢◌, ℕ, ◌+◌, ◌*◌, ◌<◌, ◌≤◌, true, List, Some, All, count_by, is_some, length, map, slice_get}
 use Rattle.std.specs.List.{AllPairs}
 use Rattle.std.specs.List.Sorted.{IsStrictlyIncreasing}
 use Rattle.std.specs.Map.{keys_of, values_of}
 use Rattle.fan_access.specs.Access.{AccessState, Waiting, asks, tells}
-use Rattle.fan_access.specs.declared.turn.Turn.{Turn}
+use Rattle.fan_access.specs.Operations.{first_mount, told_events}
+use Rattle.fan_access.specs.Rounds.{Turn}
 use Rattle.fan_bits.specs.declared.class.Class.{Class}
 use Rattle.fan_bits.specs.declared.mark.Mark.{Mark}
 use Rattle.fan_bits.specs.Marks.{Rises, stands}
@@ -36,15 +37,16 @@ pub record IsQueue (listener : ListenerState) : Type 0 where
   pub rises : IsStrictlyIncreasing (numbers_in listener.queue)
   pub made : All (λ number. number < listener.next_entry) (numbers_in listener.queue)
 
--- an access asks and tells few groups, waits for the group of the turn of its asks where it stands, and the
--- mount
+-- an access asks two rounds of groups at most, and asks and tells three at most; it has a spot for each event
+-- that its operation tells; it waits for the group of the turn of its asks where it stands; and the mount
 -- through which it was begun is there
 pub record IsAccess (mounts : List Mount) (access : AccessState) : Type 0 where
-  pub few_asks : length (asks access) ≤ max_open_groups
-  pub few_tells : length (tells access) ≤ max_open_groups
+  pub few_asks : length (asks access) ≤ 2 * max_open_groups
+  pub few : length (asks access) + length (tells access) ≤ 3 * max_open_groups
+  pub spots : length access.spots ≡ length (told_events access.op)
   pub waits : (at group entry : ℕ) → access.phase ≡ Waiting at group entry
       → (turn : Turn) × (slice_get (asks access) at ≡ Some turn) × (turn.interest.group ≡ group)
-  pub mounted : is_some (mount_of mounts access.place.mount) ≡ true
+  pub mounted : is_some (mount_of mounts (first_mount access.spots)) ≡ true
 
 -- what holds of every world that steps make of the first one
 pub record IsWhole (world : WorldState) : Type 0 where

@@ -1,30 +1,40 @@
 // Laws of accesses.
-ghost use Rattle.std.specs.Prelude.{◌≡◌, ◌≤◌, ◌↔◌, ℕ, Bool, List, [], ◌∷◌, Some, None, is_none, IfSome, MatchOption};
+ghost use Rattle.std.specs.Prelude.{◌≡◌, ◌≤◌, ◌↔◌, ℕ, Bool, List, [], ◌∷◌, Option, Some, None, Ok, is_none, length, IfSome};
 ghost use Rattle.fan_access.specs.Access.{AccessState, Waiting, event_of};
-ghost use Rattle.fan_access.specs.declared.turn.Turn.{Turn};
+ghost use Rattle.fan_access.specs.Operations.{told_events};
+ghost use Rattle.fan_access.specs.Rounds.{Turn};
 ghost use Rattle.fan_bits.specs.declared.outcome.StepOutcome.{StepOutcome};
-ghost use Rattle.fan_bits.specs.Marks.{changed};
 ghost use Rattle.fan_laws.specs.Causes.{HasNext, HasNoneLeft, IsDueTo};
 ghost use Rattle.fan_laws.specs.InOrder.{Begin, GoesInOrder, IsStill, begun_access, begun_world, outcomes_of};
 ghost use Rattle.fan_listener.specs.Groups.{answer_from, put_to};
-ghost use Rattle.fan_machine.specs.Accesses.{access_of, first_change};
+ghost use Rattle.fan_machine.specs.Accesses.{access_of, op_of};
+ghost use Rattle.fan_machine.specs.Deeds.{Deed, deed_of};
 ghost use Rattle.fan_machine.specs.Next.{after, next};
-ghost use Rattle.fan_machine.specs.World.{WorldState, initial_world};
+ghost use Rattle.fan_machine.specs.World.{WorldState, changed_if, initial_world};
+ghost use Rattle.fan_script.specs.declared.step.OpWord.{OpWord};
 ghost use Rattle.fan_script.specs.declared.step.Step.{Step};
 
 use fan_bits::Errno;
 use fan_script::{Reply, Step};
 
-/// An access that begins is open then, at the place that its path reaches and with the name by
-/// which it does (`begins`). It asks groups and then tells groups, whatever comes after it. The
-/// outcomes come in that order, up to the first denial, and to the last group if the access is
-/// finished (`order`). It goes by the marks as they stand at its begin, of a write once it has
-/// emptied the ignored sets on its file that don't survive it (`marks`). As long as it is open,
-/// only its phase changes (`same`).
+/// A begin that is done does what its operation does by its paths (`does`). The access that begins
+/// is open then, at the spots of that. It goes by the marks as they stand once a write has emptied
+/// the ignored sets on its file that don't survive it, and before the marks on what is removed go
+/// (`begins`). It has a spot for each event that it tells (`spots`). The begin leaves the marks
+/// after both of these changes (`marks`), the changed tree (`tree`), and the mounts, the groups and
+/// the limit as they were (`others`). The access asks groups and then tells groups, whatever comes
+/// after it. The outcomes come in that order, up to the first denial, and to the last group if the
+/// access is finished (`order`). As long as it is open, only its phase changes (`same`).
 pub fn accesses_ask_then_tell()
+    ensures does { (world : WorldState) (number pid tid : ℕ) (word : OpWord) (path : List ℕ)
+        (second : Option (List ℕ)) →
+        (next world (Step.Begin number pid tid word path second)).reply ≡ Reply.Done →
+        (deed : Deed) × (deed_of world (op_of word) path second ≡ Ok deed) }
     ensures begins { (world : WorldState) (number : ℕ) (begin : Begin world number) →
         access_of (begun_world world number begin) number
         ≡ Some (begun_access world number begin) }
+    ensures spots { (world : WorldState) (number : ℕ) (begin : Begin world number) →
+        length begin.deed.spots ≡ length (told_events (op_of begin.word)) }
     ensures order { (before later : List Step) (number : ℕ) →
         let world = after initial_world before in
         (begin : Begin world number) →
@@ -32,9 +42,13 @@ pub fn accesses_ask_then_tell()
         GoesInOrder (begun_access world number begin) (outcomes_of number begun later)
         (is_none (access_of (after begun later) number)) }
     ensures marks { (world : WorldState) (number : ℕ) (begin : Begin world number) →
-        let new = (begun_world world number begin).marks in
-        MatchOption (first_change begin.op begin.place) (new ≡ world.marks)
-        (λ change. new ≡ changed world.marks change) }
+        (begun_world world number begin).marks
+        ≡ changed_if begin.deed.last (changed_if begin.deed.first world.marks) }
+    ensures tree { (world : WorldState) (number : ℕ) (begin : Begin world number) →
+        (begun_world world number begin).tree ≡ begin.deed.tree }
+    ensures others { (world : WorldState) (number : ℕ) (begin : Begin world number) →
+        let new = begun_world world number begin in
+        (new.mounts ≡ world.mounts) × (new.groups ≡ world.groups) × (new.limit ≡ world.limit) }
     ensures same { (before later : List Step) (number : ℕ) →
         let world = after initial_world before in
         (begin : Begin world number) →

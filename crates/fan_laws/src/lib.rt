@@ -10,8 +10,8 @@ mod trees;
 mod worlds;
 
 pub use accesses::{accesses_ask_then_tell, finished_accesses_stay_so, outcomes_have_causes};
-pub use reclaiming::marks_are_reclaimed_once;
-pub use refusals::{known_operations_are_built, refused_steps_change_nothing};
+pub use reclaiming::{marks_are_reclaimed_once, removals_take_their_marks};
+pub use refusals::refused_steps_change_nothing;
 pub use runs::every_run_ends;
 pub use trees::trees_are_whole;
 pub use worlds::worlds_are_whole;

@@ -1,13 +1,16 @@
-// The law of retired marks.
-ghost use Rattle.std.specs.Prelude.{◌≡◌, ◌<◌, ℕ, List, [], ◌++◌, All, Some, None, length};
+// Laws of retired marks.
+ghost use Rattle.std.specs.Prelude.{◌≡◌, ◌≢◌, ◌<◌, ◌⊎◌, ℕ, List, [], ◌++◌, All, Some, None, length};
 ghost use Rattle.fan_access.specs.Access.{AccessState};
+ghost use Rattle.fan_bits.specs.declared.change.Change.TheVariants.{DropObject};
 ghost use Rattle.fan_machine.specs.Accesses.{access_of};
 ghost use Rattle.fan_machine.specs.Next.{after, next};
 ghost use Rattle.fan_machine.specs.World.{Batch, RetiredMark, WorldState, initial_world};
+ghost use Rattle.fan_laws.specs.InOrder.{Begin, begun_world};
 ghost use Rattle.fan_laws.specs.Reclaiming.{marks_in, pending, reclaimed_in, reclaims, retirements};
 ghost use Rattle.fan_script.specs.declared.step.Step.{Step};
+ghost use Rattle.fan_tree.specs.Tree.{inode_of};
 
-use fan_script::{Reply, Step};
+use fan_script::{OpWord, Reply, Step};
 
 /// Each mark that a step removes or replaces is reclaimed once at most, in the order in which marks
 /// were retired, and is pending until then (`once`). `grace` counts just the marks that it reclaims
@@ -41,4 +44,15 @@ pub fn marks_are_reclaimed_once()
         let first = (next world Step.Grace).world in
         let second = (next first Step.Grace).world in
         world.accesses ≡ [] → pending second ≡ [] }
+{}
+
+/// What `unlink` or `rmdir` removes is in the tree no more, and no mark is on it.
+pub fn removals_take_their_marks()
+    ensures { (world : WorldState) (number : ℕ) (begin : Begin world number) →
+        (begin.word ≡ OpWord.Unlinks) ⊎ (begin.word ≡ OpWord.RemovesDir) →
+        let new = begun_world world number begin in
+        (removed : ℕ)
+        × (begin.deed.last ≡ Some (DropObject removed))
+        × (inode_of new.tree removed ≡ None)
+        × All (λ mark. mark.object ≢ removed) new.marks }
 {}
