@@ -12,7 +12,8 @@ use Rattle.std.proofs.lemmas.Map.{keys-set_value}
 use Rattle.std.proofs.lemmas.Map.Made.{is_some-lookup}
 use Rattle.std.proofs.lemmas.Map.Views.{All-keys-insert_entry, All-map-remove_entry}
 use Rattle.fan_access.specs.Access.{AccessState, Stepped}
-use Rattle.fan_bits.specs.declared.place.Place.{Place}
+use Rattle.fan_access.specs.declared.spot.Spot.{Spot}
+use Rattle.fan_access.specs.Operations.{first_mount}
 use Rattle.fan_bits.specs.Outcomes.{ends_access}
 use Rattle.fan_bits.specs.Words.{is_among}
 use Rattle.fan_listener.specs.ListenerState.{ListenerState}
@@ -81,8 +82,8 @@ through_both mount [] [] zipped = refl
 through_both mount [] (a ∷ more) zipped = absurd zipped
 through_both mount (e ∷ es) [] zipped = absurd zipped
 through_both mount (e ∷ es) (a ∷ more) zipped =
-    let same : (e.1.access.place.mount == mount) ≡ (a.1.place.mount == mount) =
-    ap (λ (place : Place). place.mount == mount) zipped.0.goes_on.place in
+    let same : (first_mount e.1.access.spots == mount) ≡ (first_mount a.1.spots == mount) =
+    ap (λ (spots : List Spot). first_mount spots == mount) zipped.0.goes_on.spots in
     rw (same, through_both mount es more zipped.1) refl
 
 -- ---- whether a batch is held

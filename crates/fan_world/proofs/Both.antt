@@ -12,25 +12,25 @@ use Rattle.fan_access.specs.Access.{AccessState, Phase, Asking, Waiting, Telling
 use Rattle.fan_access.specs.Kept.{IsAccess, IsStepped, KeptAccess}
 use Rattle.fan_bits.specs.declared.mark.Mark.{Mark}
 use Rattle.fan_bits.specs.declared.outcome.StepOutcome.{StepOutcome}
-use Rattle.fan_bits.specs.Interest.{near}
 use Rattle.fan_bits.specs.Outcomes.{ends_access}
 use Rattle.fan_listener.specs.ListenerState.{ListenerState}
+use Rattle.fan_near.specs.Near.{near_any}
 use Rattle.fan_world.specs.declared.open_accesses.OpenAccess.{OpenAccess}
 use Rattle.fan_world.specs.Machine.{IsOpen}
 use Rattle.fan_world.specs.Opened.{HasStepped}
 
--- ---- a step keeps the place of an access and its view
+-- ---- a step keeps the spots of an access and its view
 
 record KeepsView (access next : AccessState) : Type 0 where
-  place : next.place ≡ access.place
+  spots : next.spots ≡ access.spots
   view : next.view ≡ access.view
 
 tells_keep : (at : ℕ) (groups : List ListenerState) (access : AccessState)
     → KeepsView access (tells_next (slice_get (tells access) at) at groups access).access
 tells_keep at groups access =
     elim (slice_get (tells access) at) as (λ turn. KeepsView access (tells_next turn at groups access).access) [
-      | None ↦ record { place = refl; view = refl }
-      | Some turn ↦ record { place = refl; view = refl }
+      | None ↦ record { spots = refl; view = refl }
+      | Some turn ↦ record { spots = refl; view = refl }
     ]
 
 asks_keep : (at : ℕ) (groups : List ListenerState) (access : AccessState)
@@ -38,13 +38,13 @@ asks_keep : (at : ℕ) (groups : List ListenerState) (access : AccessState)
 asks_keep at groups access =
     elim (slice_get (asks access) at) as (λ turn. KeepsView access (asks_next turn at groups access).access) [
       | None ↦ tells_keep 0 groups access
-      | Some turn ↦ record { place = refl; view = refl }
+      | Some turn ↦ record { spots = refl; view = refl }
     ]
 
 at_keeps : (phase : Phase) (groups : List ListenerState) (access : AccessState)
     → KeepsView access (step_at phase groups access).access
 at_keeps (Asking at) groups access = asks_keep at groups access
-at_keeps (Waiting at group entry) groups access = record { place = refl; view = refl }
+at_keeps (Waiting at group entry) groups access = record { spots = refl; view = refl }
 at_keeps (Telling at) groups access = tells_keep at groups access
 
 step_keeps : (groups : List ListenerState) (access : AccessState) → KeepsView access (access_step groups access).access
@@ -55,7 +55,7 @@ step_keeps groups access = at_keeps access.phase groups access
 
 -- an access stands for what is kept of it
 pub record StandsFor (kept : OpenAccess) (access : AccessState) : Type 0 where
-  pub near_is : kept.marks ≡ filter (near access.place) access.view
+  pub near_is : kept.marks ≡ filter (near_any access.spots) access.view
   pub goes_on : IsAccess kept.marks kept.access access
 
 module _ (test : ℕ → Bool) where
@@ -180,7 +180,7 @@ stepped_both number outcome groups new_groups es new kept next found step is acc
     let did = step access there.2.goes_on in
     let keeps = step_keeps groups access in
     let stands : StandsFor (record { access = next; marks = kept.marks }) stepped.access = record {
-      near_is = rw (keeps.place, keeps.view) there.2.near_is;
+      near_is = rw (keeps.spots, keeps.view) there.2.near_is;
       goes_on = did.goes_on;
     } in record {
       access = access;

@@ -9,34 +9,35 @@ use Rattle.std.proofs.lemmas.List.{length-map}
 use Rattle.std.proofs.lemmas.List.Folds.{list_any_at}
 use Rattle.fan_access.specs.Access.{AccessState, access_step, new_access}
 use Rattle.fan_access.specs.declared.op.Op.{Op}
-use Rattle.fan_access.specs.declared.op.Op.TheVariants as ops
+use Rattle.fan_access.specs.declared.spot.Spot.{Spot}
 use Rattle.fan_access.specs.Kept.{IsAccess, SeesSame}
-use Rattle.fan_access.specs.Rounds.{happening_at}
-use Rattle.fan_bits.specs.declared.change.Change.TheVariants.{Clear}
+use Rattle.fan_bits.specs.declared.change.Change.TheVariants.{Clear, DropObject}
 use Rattle.fan_bits.specs.declared.errno.Errno.TheVariants as errno
 use Rattle.fan_bits.specs.declared.outcome.StepOutcome.{StepOutcome}
 use Rattle.fan_bits.specs.declared.mark.Mark.{Mark}
-use Rattle.fan_bits.specs.declared.place.Place.{Place}
-use Rattle.fan_bits.specs.Interest.{near}
 use Rattle.fan_bits.specs.Marks.{IsMarkList, changed, retired}
-use Rattle.fan_bits.proofs.InterestLaws.{interests_near}
 use Rattle.fan_listener.specs.ListenerState.{ListenerState}
-use Rattle.fan_machine.specs.Accesses.{advanced, begins, first_change}
+use Rattle.fan_machine.specs.Accesses.{advanced, begins}
 use Rattle.fan_machine.specs.Batches.{batch_of, graced, held, is_held, reclaimed, started}
-use Rattle.fan_machine.specs.World.{Batch, RetiredMark, WorldState, retired_now}
+use Rattle.fan_machine.specs.World.{Batch, RetiredMark, WorldState, changed_if, retired_now}
 use Rattle.fan_script.specs.declared.reply.Reply.TheVariants as replies
+use Rattle.fan_world.specs.declared.begin_steps.Actor.{Actor}
+use Rattle.fan_world.specs.declared.deeds.MarkEdit.{MarkEdit}
+use Rattle.fan_world.specs.declared.deeds.MarkEdit.TheVariants.{Dropped, Emptied, Stays}
+use Rattle.fan_world.specs.Plans.{deed_with, edit_of, first_of}
 use Rattle.fan_world.specs.declared.open_accesses.OpenAccess.{OpenAccess}
 use Rattle.fan_world.specs.declared.retirement.KeptBatch.{KeptBatch}
 use Rattle.fan_world.specs.declared.retirement.Retirement.{Retirement}
 use Rattle.fan_world.specs.Bounds.{IsClassedIf}
 use Rattle.fan_world.specs.Done.{IsDone}
 use Rattle.fan_world.specs.Machine.{IsBatch, IsBatchIn, IsMachine, IsOpen, IsStep, Parts}
-use Rattle.fan_world.specs.Marks.{changed_if, retired_if}
+use Rattle.fan_world.specs.Marks.{retired_if}
 use Rattle.fan_world.specs.Opened.{HasStepped}
 use Rattle.fan_world.specs.Retired.{has_up_to, kept_batch, kept_start, reclaimed_count, still_held}
 use Rattle.fan_world.proofs.Batches.{batch_begun, batch_stepped, held_both, keys_both}
 use Rattle.fan_world.proofs.Both.{insert_both, none_both}
-use Rattle.fan_near.proofs.NearLemmas.{near_cleared}
+use Rattle.fan_near.proofs.NearLemmas.{near_cleared, near_tells_same}
+use Rattle.fan_near.specs.Near.{near_any}
 
 -- ---- an access does its next step
 
@@ -183,77 +184,102 @@ waits_more count waiting last marks is = rw (length-append, length-map, is) refl
 -- ---- an access begins
 
 -- the change with which it begins makes no mark
-pub first_classed : (groups : List ListenerState) (op : Op) (place : Place)
-    → IsClassedIf groups (first_change op place)
-first_classed groups ops.Opens place = tt
-first_classed groups ops.Writes place = tt
+pub edit_classed : (groups : List ListenerState) (edit : MarkEdit) → IsClassedIf groups (edit_of edit)
+edit_classed groups Stays = tt
+edit_classed groups (Emptied object) = tt
+edit_classed groups (Dropped object) = tt
 
--- marks near a place that are emptied are those near it of all that are emptied
-pub near_changed : (place : Place) (object : ℕ) (marks : List Mark)
-    → changed (filter (near place) marks) (Clear object) ≡ filter (near place) (changed marks (Clear object))
-unfolding changed
-near_changed place object marks = sym (near_cleared place object marks)
+-- the marks near some spots tell what all tell
+sees_near : (op : Op) (spots : List Spot) (pid tid : ℕ) (view : List Mark) → IsMarkList view
+    → SeesSame (filter (near_any spots) view) (new_access op spots pid tid view)
+sees_near op spots pid tid view is_list = near_tells_same spots view is_list
 
--- the marks near a place tell what all tell
-sees_near : (op : Op) (place : Place) (name : List ℕ) (pid tid : ℕ) (marks : List Mark) → IsMarkList marks
-    → SeesSame (filter (near place) marks) (new_access op place name pid tid marks)
-sees_near op place name pid tid marks is_list bits = interests_near marks is_list (happening_at place bits)
-
-module _ (old new : Parts) (world : WorldState) (number : ℕ) (place : Place) (name : List ℕ) (pid tid : ℕ) (kept : OpenAccess)
-    (machine : IsMachine old world) (above : old.last_access < number) (is_list : IsMarkList new.marks)
-    (tree : new.tree ≡ old.tree) (mounts : new.mounts ≡ old.mounts) (groups : new.groups ≡ old.groups)
-    (batch : new.batch ≡ old.batch) (last : new.last_access ≡ number)
-    (entries : new.accesses ≡ insert_entry nat_cmp old.accesses number kept)
-    (near_is : kept.marks ≡ filter (near place) new.marks) (limit : new.limit ≡ old.limit) where
-  -- the access that begins sees the marks as they stand then
-  begins_in : (op : Op) (next : WorldState)
-      → ((marks view : List Mark) → IsMarkList view → SeesSame marks (new_access op place name pid tid view)
-      → IsAccess marks kept.access (new_access op place name pid tid view))
-      → new.marks ≡ next.marks → new.waiting ≡ length next.waiting → next.tree ≡ world.tree
+module _ (old new : Parts) (world : WorldState) (who : Actor) (op : Op) (spots : List Spot) (kept : OpenAccess)
+    (machine : IsMachine old world) (above : old.last_access < who.number) (is_list : IsMarkList old.marks)
+    (mounts : new.mounts ≡ old.mounts) (groups : new.groups ≡ old.groups)
+    (batch : new.batch ≡ old.batch) (last : new.last_access ≡ who.number) (limit : new.limit ≡ old.limit)
+    (near_is : kept.marks ≡ filter (near_any spots) old.marks)
+    (goes_on : (marks view : List Mark) → IsMarkList view
+    → SeesSame marks (new_access op spots who.pid who.tid view)
+    → IsAccess marks kept.access (new_access op spots who.pid who.tid view)) where
+  -- the access that begins sees the marks of its view
+  begins_in : (view : List Mark) (next : WorldState) → IsMarkList view
+      → new.accesses ≡ insert_entry nat_cmp old.accesses who.number
+      (record kept { marks = filter (near_any spots) view })
+      → new.marks ≡ next.marks → new.waiting ≡ length next.waiting → new.tree ≡ next.tree
       → next.mounts ≡ world.mounts → next.groups ≡ world.groups → next.batch ≡ world.batch
-      → next.accesses ≡ insert_entry nat_cmp world.accesses number (new_access op place name pid tid next.marks)
-      → next.last_access ≡ number → next.limit ≡ world.limit → IsMachine new next
-  begins_in op next goes_on marks waiting same_tree same_mounts same_groups same_batch accesses same_last
+      → next.accesses
+      ≡ insert_entry nat_cmp world.accesses who.number (new_access op spots who.pid who.tid view)
+      → next.last_access ≡ who.number → next.limit ≡ world.limit → IsMachine new next
+  begins_in view next view_list entries marks waiting tree same_mounts same_groups same_batch accesses same_last
       same_limit =
-      let access = new_access op place name pid tid next.marks in
-      let view_list : IsMarkList next.marks = rw marks at is_list in
-      let near_view : kept.marks ≡ filter (near place) next.marks =
-      near_is ∙ ap (filter (near place)) marks in
-      let sees : SeesSame kept.marks access =
-      rw near_view (sees_near op place name pid tid next.marks view_list) in
-      let above_all : world.last_access < number = rw machine.last_access at above in
+      let access = new_access op spots who.pid who.tid view in
+      let above_all : world.last_access < who.number = rw machine.last_access at above in
       record {
-        tree = tree ∙ machine.tree ∙ sym same_tree;
+        tree = tree;
         mounts = mounts ∙ machine.mounts ∙ sym same_mounts;
         groups = groups ∙ machine.groups ∙ sym same_groups;
         marks = marks;
         waiting = waiting;
-        batch = rw batch (batch_begun old.batch next.batch world next number access above_all same_last
+        batch = rw batch (batch_begun old.batch next.batch world next who.number access above_all same_last
             accesses (rw same_batch machine.batch));
         accesses = rw (entries, accesses)
-            (insert_both old.accesses world.accesses machine.accesses number kept access (record {
+            (insert_both old.accesses world.accesses machine.accesses who.number _ access (record {
               number = refl;
-              near = near_view;
-              goes_on = goes_on kept.marks next.marks view_list sees;
+              near = refl;
+              goes_on = goes_on (filter (near_any spots) view) view view_list
+                  (sees_near op spots who.pid who.tid view view_list);
             }));
         last_access = last ∙ sym same_last;
         limit = limit ∙ machine.limit ∙ sym same_limit;
       }
 
-  -- it begins with the change of its operation
-  pub begin_done : (op : Op)
-      → ((marks view : List Mark) → IsMarkList view → SeesSame marks (new_access op place name pid tid view)
-      → IsAccess marks kept.access (new_access op place name pid tid view))
-      → new.marks ≡ changed_if (first_change op place) old.marks
-      → new.waiting ≡ old.waiting + length (retired_if (first_change op place) old.marks)
-      → IsMachine new (begins number op place name pid tid world)
-  begin_done ops.Opens goes_on marks waiting =
-      begins_in ops.Opens (begins number ops.Opens place name pid tid world) goes_on (marks ∙ machine.marks)
+  -- the marks after the change with which it begins
+  abbrev marked : MarkEdit → List Mark
+  marked edit = changed_if (edit_of edit) old.marks
+
+  -- it begins by its deed
+  pub begin_done : (edit : MarkEdit)
+      → new.accesses ≡ insert_entry nat_cmp old.accesses who.number
+      (record kept { marks = changed_if (first_of edit) kept.marks })
+      → new.marks ≡ marked edit
+      → new.waiting ≡ old.waiting + length (retired_if (edit_of edit) old.marks)
+      → IsMarkList new.marks
+      → IsMachine new (begins who.number op (deed_with spots new.tree edit) who.pid who.tid world)
+  begin_done Stays entries marks waiting new_list =
+      begins_in world.marks (begins who.number op (deed_with spots new.tree Stays) who.pid who.tid world)
+      (rw (← machine.marks) is_list)
+      (entries ∙ ap with_marks (near_is ∙ ap (filter (near_any spots)) machine.marks))
+      (marks ∙ machine.marks)
       (waiting ∙ add-zero old.waiting ∙ machine.waiting) refl refl refl refl refl refl refl
-  begin_done ops.Writes goes_on marks waiting =
-      begins_in ops.Writes (begins number ops.Writes place name pid tid world) goes_on
-      (marks ∙ ap (λ (marks : List Mark). changed marks (Clear place.inode)) machine.marks)
+    where
+      with_marks : List Mark → List (ℕ × OpenAccess)
+      with_marks near = insert_entry nat_cmp old.accesses who.number (record kept { marks = near })
+  begin_done (Emptied object) entries marks waiting new_list =
+      begins_in (changed world.marks (Clear object))
+      (begins who.number op (deed_with spots new.tree (Emptied object)) who.pid who.tid world)
+      (rw (← machine.marks) (rw marks at new_list))
+      (entries ∙ ap with_marks (ap (λ (near : List Mark). changed near (Clear object)) near_is
+      ∙ sym (near_cleared spots object old.marks)
+      ∙ ap (λ (all : List Mark). filter (near_any spots) (changed all (Clear object))) machine.marks))
+      (marks ∙ ap (λ (all : List Mark). changed all (Clear object)) machine.marks)
       (waiting
-      ∙ ap (λ (marks : List Mark). old.waiting + length (retired marks (Clear place.inode))) machine.marks
-      ∙ waits_more old.waiting world.waiting number (retired world.marks (Clear place.inode)) machine.waiting)
+      ∙ ap (λ (all : List Mark). old.waiting + length (retired all (Clear object))) machine.marks
+      ∙ waits_more old.waiting world.waiting who.number (retired world.marks (Clear object)) machine.waiting)
       refl refl refl refl refl refl refl
+    where
+      with_marks : List Mark → List (ℕ × OpenAccess)
+      with_marks near = insert_entry nat_cmp old.accesses who.number (record kept { marks = near })
+  begin_done (Dropped object) entries marks waiting new_list =
+      begins_in world.marks
+      (begins who.number op (deed_with spots new.tree (Dropped object)) who.pid who.tid world)
+      (rw (← machine.marks) is_list)
+      (entries ∙ ap with_marks (near_is ∙ ap (filter (near_any spots)) machine.marks))
+      (marks ∙ ap (λ (all : List Mark). changed all (DropObject object)) machine.marks)
+      (waiting
+      ∙ ap (λ (all : List Mark). old.waiting + length (retired all (DropObject object))) machine.marks
+      ∙ waits_more old.waiting world.waiting who.number (retired world.marks (DropObject object)) machine.waiting)
+      refl refl refl refl refl refl refl
+    where
+      with_marks : List Mark → List (ℕ × OpenAccess)
+      with_marks near = insert_entry nat_cmp old.accesses who.number (record kept { marks = near })

@@ -14,7 +14,8 @@ use Rattle.std.proofs.lemmas.Map.Entries.{sum_by-remove_entry, sum_by-set_value}
 use Rattle.std.proofs.lemmas.Map.Views.{All-keys-insert_entry, All-map-remove_entry}
 use Rattle.std.proofs.lemmas.Map.Keys.{sorted_head}
 use Rattle.std.specs.declared.cmp.Ordering.TheVariants.{Less}
-use Rattle.fan_bits.specs.declared.place.Place.{Place}
+use Rattle.fan_access.specs.declared.spot.Spot.{Spot}
+use Rattle.fan_access.specs.Operations.{first_mount}
 use Rattle.fan_lists.proofs.Counts.{any_from_count, count_by-cons, count_from_any}
 use Rattle.fan_map.proofs.Keys.{insert_number_end, new_number_end}
 use Rattle.fan_world.specs.declared.open_accesses.OpenAccess.{OpenAccess}
@@ -69,7 +70,7 @@ module _ (entries : List (ℕ × OpenAccess)) (through : List (ℕ × ℕ)) (las
   -- an access that begins is counted
   pub counted_add : (new : List (ℕ × ℕ)) (number : ℕ) (begun : OpenAccess) → last < number
       → ((other : ℕ) → number_at new other
-      ≡ number_at through other + cond (begun.access.place.mount == other) 1 0)
+      ≡ number_at through other + cond (first_mount begun.access.spots == other) 1 0)
       → AreCounted (insert_entry nat_cmp entries number begun) new number
   counted_add new number begun above more =
       let below : All (λ q. q < number) (keys_of entries) =
@@ -80,13 +81,13 @@ module _ (entries : List (ℕ × OpenAccess)) (through : List (ℕ × ℕ)) (las
             (All-weaker (λ q. q < number) (λ q. q ≤ number) (λ q within. omega (arith, within)) (keys_of entries) below)
             (omega arith);
         few = rw end (omega (arith, length_end entries (number, begun), counted.few, above));
-        counts = λ mount. more mount ∙ ap (λ n. n + cond (begun.access.place.mount == mount) 1 0) (counted.counts mount)
+        counts = λ mount. more mount ∙ ap (λ n. n + cond (first_mount begun.access.spots == mount) 1 0) (counted.counts mount)
             ∙ sym (ap (λ es. count_through es mount) end ∙ counted_end mount number begun entries);
       }
 
-  -- one that takes the place of another of the same mount is counted as that was
+  -- one that takes the place of another at the same spots is counted as that was
   pub counted_set : (number : ℕ) (held other : OpenAccess) → lookup (is_at (nat_cmp number)) entries ≡ Some held
-      → held.access.place ≡ other.access.place
+      → held.access.spots ≡ other.access.spots
       → AreCounted (set_value (is_at (nat_cmp number)) entries other) through last
   counted_set number held other found same =
       let test = is_at (nat_cmp number) in record {
@@ -94,7 +95,7 @@ module _ (entries : List (ℕ × OpenAccess)) (through : List (ℕ × ℕ)) (las
         few = rw (length-set_value test entries other) counted.few;
         counts = λ mount.
             let set = sum_by-set_value (λ x. cond (is_through mount x) 1 0) test entries held other found in
-            let one : is_through mount held ≡ is_through mount other = ap (λ (place : Place). place.mount == mount) same in
+            let one : is_through mount held ≡ is_through mount other = ap (λ (spots : List Spot). first_mount spots == mount) same in
             let f : Bool → ℕ = λ b. cond b 1 0 in
             let bit = ap f one in
             omega (arith, counted.counts mount, set, bit);
@@ -103,7 +104,7 @@ module _ (entries : List (ℕ × OpenAccess)) (through : List (ℕ × ℕ)) (las
   -- one that ends is counted no more
   pub counted_less : (new : List (ℕ × ℕ)) (number : ℕ) (ended : OpenAccess)
       → lookup (is_at (nat_cmp number)) entries ≡ Some ended
-      → ((other : ℕ) → number_at new other + cond (ended.access.place.mount == other) 1 0
+      → ((other : ℕ) → number_at new other + cond (first_mount ended.access.spots == other) 1 0
       ≡ number_at through other)
       → AreCounted (remove_entry (is_at (nat_cmp number)) entries) new last
   counted_less new number ended found less =
@@ -119,9 +120,9 @@ module _ (entries : List (ℕ × OpenAccess)) (through : List (ℕ × ℕ)) (las
 
   -- it was counted
   pub count_before : (number : ℕ) (ended : OpenAccess) → lookup (is_at (nat_cmp number)) entries ≡ Some ended
-      → 1 ≤ number_at through ended.access.place.mount
+      → 1 ≤ number_at through (first_mount ended.access.spots)
   count_before number ended found =
-      let mount = ended.access.place.mount in
+      let mount = first_mount ended.access.spots in
       let f : OpenAccess → ℕ = λ x. cond (is_through mount x) 1 0 in
       let gone = sum_by-remove_entry f (is_at (nat_cmp number)) entries in
       let one = ap (λ (o : Option OpenAccess). unwrap_or (option_map f o) 0) found in

@@ -16,7 +16,8 @@ use Rattle.fan_listener.specs.Queue.{put}
 use Rattle.fan_listener.specs.Responses.{answer_of}
 use Rattle.fan_world.specs.Bounds.{AreClassed, IsClassedIf, IsSafe, KeepsFlags}
 use Rattle.fan_world.specs.Machine.{Parts}
-use Rattle.fan_world.specs.Marks.{changed_if, retired_if}
+use Rattle.fan_machine.specs.World.{changed_if}
+use Rattle.fan_world.specs.Marks.{retired_if}
 use Rattle.fan_world.proofs.Classed.{classed_changed}
 use Rattle.fan_world.proofs.Flags.{classed_kept}
 

@@ -5,12 +5,12 @@ use Rattle.std.specs.Map.{keys_of}
 use Rattle.fan_access.specs.Access.{AccessState}
 use Rattle.fan_access.specs.Kept.{IsAccess}
 use Rattle.fan_bits.specs.declared.mark.Mark.{Mark}
-use Rattle.fan_bits.specs.Interest.{near}
 use Rattle.fan_bits.specs.Words.{is_among}
 use Rattle.fan_listener.specs.ListenerState.{ListenerState}
 use Rattle.fan_machine.specs.Outcome.{Outcome}
 use Rattle.fan_machine.specs.World.{Batch, WorldState}
 use Rattle.fan_mounts.specs.declared.mount.Mount.{Mount}
+use Rattle.fan_near.specs.Near.{near_any}
 use Rattle.fan_script.specs.declared.reply.Reply.{Reply}
 use Rattle.fan_tree.specs.Tree.{TreeState}
 use Rattle.fan_world.specs.declared.open_accesses.OpenAccess.{OpenAccess}
@@ -29,10 +29,10 @@ pub record Parts : Type 0 where
   pub limit : ℕ
   pub steps : ℕ
 
--- an open access is kept at its number, with the marks near its place
+-- an open access is kept at its number, with the marks near its spots
 pub record IsOpen (kept : ℕ × OpenAccess) (access : ℕ × AccessState) : Type 0 where
   pub number : kept.0 ≡ access.0
-  pub near : kept.1.marks ≡ filter (near access.1.place) access.1.view
+  pub near : kept.1.marks ≡ filter (near_any access.1.spots) access.1.view
   pub goes_on : IsAccess kept.1.marks kept.1.access access.1
 
 -- a batch is kept by a count and a number: of the open accesses just those up to that number are its own

@@ -5,6 +5,7 @@ use Rattle.std.specs.List.{AllZip}
 use Rattle.std.specs.Map.{keys_of, lookup, values_of}
 use Rattle.std.specs.Ordering.{nat_cmp}
 use Rattle.fan_access.specs.Access.{AccessState, access_step}
+use Rattle.fan_access.specs.Operations.{first_mount}
 use Rattle.fan_bits.specs.declared.outcome.StepOutcome.{StepOutcome}
 use Rattle.fan_listener.specs.ListenerState.{ListenerState}
 use Rattle.fan_machine.specs.Accesses.{accesses_after}
@@ -21,7 +22,7 @@ pub record OpenState : Type 0 where
 
 -- an open access was begun through a mount
 abbrev pub is_through : ℕ → OpenAccess → Bool
-is_through mount begun = begun.access.place.mount == mount
+is_through mount begun = first_mount begun.access.spots == mount
 
 -- how many were begun through a mount
 abbrev pub count_through : List (ℕ × OpenAccess) → ℕ → ℕ

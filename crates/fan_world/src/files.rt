@@ -1,8 +1,9 @@
 // The file tree with its mounts. What is refused changes nothing, and so does want of memory.
 ghost use Rattle.std.specs.Prelude.{◌≡◌, ℕ, List, IfErr, IfOk, OnErr, OnOk, Ok, Err, is_some, true};
 ghost use Rattle.fan_bits.specs.Places.{IsPlace};
-ghost use Rattle.fan_mounts.specs.Mounts.{initial_mounts, mount_of, mounted, unmounted};
+ghost use Rattle.fan_mounts.specs.Mounts.{initial_mounts, mount_of, mounted, stands_on, unmounted};
 ghost use Rattle.fan_mounts.specs.Reaches.{Reaches, place_of};
+ghost use Rattle.fan_tree.specs.Changes.{removed, renamed};
 ghost use Rattle.fan_tree.specs.Tree.{IsRefused, initial_tree, made, made_fs, root_of};
 
 use fan_bits::{Errno, Place};
@@ -40,6 +41,13 @@ impl Files {
         self.mounts.place(&self.tree, path)
     }
 
+    /// Whether some mount stands on a directory, whichever mount shows it.
+    pub(crate) fn stands_on(&self, inode: u32) -> bool
+        ensures { result ≡ stands_on self.now.mounts inode }
+    {
+        self.mounts.stands_on(inode)
+    }
+
     /// Whether there is a filesystem with a number.
     pub(crate) fn has_fs(&self, fs: u32) -> bool
         ensures { result ≡ is_some (root_of self.now.tree fs) }
@@ -63,6 +71,38 @@ impl Files {
         ensures err { OnErr result (self.new ≡ self.old) }
     {
         settled(self.tree.make(dir, name, is_dir))
+    }
+
+    /// Removes a file or an empty directory by its name in a directory, and gives its number: ENOENT,
+    /// ENOTEMPTY. Allocates nothing.
+    pub(crate) fn remove(&mut self, dir: u32, name: &[u8]) -> Result<u32, Errno>
+        ensures removed { IfOk result (λ inode.
+            removed self.old.tree dir name.now ≡ Ok (inode, self.new.tree)) }
+        ensures refused { IfErr result (λ errno. removed self.old.tree dir name.now ≡ Err errno) }
+        ensures mounts { self.new.mounts ≡ self.old.mounts }
+        ensures err { OnErr result (self.new ≡ self.old) }
+    {
+        self.tree.remove(dir, name)
+    }
+
+    /// Renames a file or a directory, by its name in a directory, to a new name in a directory, and gives its
+    /// number: ENOENT, ENOTDIR, EXDEV, EEXIST, EINVAL.
+    pub(crate) fn rename(
+        &mut self,
+        dir: u32,
+        name: &[u8],
+        to: u32,
+        new_name: &[u8],
+    ) -> Result<Result<u32, Errno>, NoMemory>
+        ensures renamed { IfOk result (λ done. IfOk done (λ inode.
+            renamed self.old.tree dir name.now to new_name.now ≡ Ok (inode, self.new.tree))) }
+        ensures refused { IfOk result (λ done. IfErr done (λ errno.
+            renamed self.old.tree dir name.now to new_name.now ≡ Err errno)) }
+        ensures same { IfOk result (λ done. OnErr done (self.new ≡ self.old)) }
+        ensures mounts { self.new.mounts ≡ self.old.mounts }
+        ensures err { OnErr result (self.new ≡ self.old) }
+    {
+        settled(self.tree.rename(dir, name, to, new_name))
     }
 
     /// Makes a filesystem with its root, and gives its number: ENOSPC.

@@ -3,14 +3,18 @@
 #![tactic(auto)]
 
 mod access_steps;
+mod begin_steps;
+mod deeds;
 mod file_steps;
 mod files;
 mod group_steps;
 mod machine;
 mod mark_steps;
 mod open_accesses;
+mod plans;
 mod refused;
 mod retirement;
+mod spots;
 #[cfg(test)]
 mod tests;
 mod world;

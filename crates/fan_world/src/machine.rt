@@ -7,6 +7,7 @@ ghost use Rattle.fan_world.specs.Bounds.{IsSafe};
 ghost use Rattle.fan_world.specs.Done.{IsDone};
 ghost use Rattle.fan_world.specs.Machine.{IsMachine};
 
+use super::begin_steps::Actor;
 use super::files::Files;
 use super::group_steps::MAX_LIMIT;
 use super::open_accesses::OpenAccesses;
@@ -120,8 +121,15 @@ impl Machine {
                 tid,
                 op,
                 path,
-                ..
-            } => self.begin(*access, *pid, *tid, *op, path.as_slice()),
+                second,
+            } => {
+                let who = Actor {
+                    number: *access,
+                    pid: *pid,
+                    tid: *tid,
+                };
+                self.begin(who, *op, path.as_slice(), second)
+            }
             Step::Advance { access } => self.advance(*access),
             Step::Read { group, size } => self.read(*group, *size),
             Step::Write { group, bytes } => self.write(*group, bytes.as_slice()),

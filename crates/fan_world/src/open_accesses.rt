@@ -25,7 +25,7 @@ use std::marker::Model;
 pub(crate) struct OpenAccess {
     /// Where it stands.
     pub(crate) access: Access,
-    /// The marks near its place, as they stood at its begin.
+    /// The marks near its spots, as they stood at its begin.
     pub(crate) marks: NearMarks,
 }
 
@@ -113,7 +113,7 @@ impl OpenAccesses {
         ensures entries { self.new.entries ≡ insert_entry nat_cmp self.old.entries number begun }
         ensures last { self.new.last ≡ number }
     {
-        add_one(&mut self.through, begun.access.place().mount);
+        add_one(&mut self.through, begun.access.mount());
         self.by_number.insert_reserved(number, begun);
         self.last = number;
     }
@@ -157,7 +157,7 @@ impl OpenAccesses {
         ensures last { self.new.last ≡ self.old.last }
     {
         if let Some(ended) = self.by_number.remove(number) {
-            take_one(&mut self.through, ended.access.place().mount);
+            take_one(&mut self.through, ended.access.mount());
         }
     }
 }

@@ -1,4 +1,6 @@
 // Lines of scripts, and what a new machine answers to them one after another.
+mod operations;
+
 use super::World;
 use fan_io::NoMemory;
 use fan_script::{Line, Reply, Step, StepOutcome, read_line};

@@ -1,6 +1,5 @@
-use Rattle.std.proofs.Common.{◌≡◌, ◌+◌, ◌<◌, cond, subst, sym}
+use Rattle.std.proofs.Common.{◌≡◌, ◌+◌, ◌<◌, ℕ, cond, subst, sym}
 use Rattle.std.specs.Prelude.{◌==◌}
-use Rattle.fan_bits.specs.declared.place.Place.{Place}
 use Rattle.fan_map.specs.Counts.{number_at}
 use Rattle.fan_world.specs.Opened.{OpenState}
 use Rattle.fan_world.proofs.OpenLemmas.{counted_add, number_is_new}
@@ -19,5 +18,5 @@ invariant_of-self c =
     (counted_add kept.by_number.entries kept.through.entries kept.last c.self.invariant c.add_one.new.counts.entries
     c.args.number c.args.begun
     (subst (λ (state : OpenState). state.last < c.args.number) (sym c.self.view_is) c.requires.above)
-    (λ other. subst (λ (place : Place). number_at c.add_one.new.counts.entries other
-    ≡ number_at kept.through.entries other + cond (place.mount == other) 1 0) c.place.ensures (c.add_one.ensures other)))
+    (λ other. subst (λ (mount : ℕ). number_at c.add_one.new.counts.entries other
+    ≡ number_at kept.through.entries other + cond (mount == other) 1 0) c.mount.ensures (c.add_one.ensures other)))

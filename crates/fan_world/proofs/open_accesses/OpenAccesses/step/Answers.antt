@@ -9,19 +9,19 @@ pub invariant_of-self-in_err-outcome : goal.invariant_of-self-in_err-outcome
 invariant_of-self-in_err-outcome c =
     let kept = c.self.inside in
     counted_set kept.by_number.entries kept.through.entries kept.last c.self.invariant c.args.number
-    c.in-Some.stepping.now _ (sym c.in-Some.ensures.value) (sym c.step.ensures.same_place)
+    c.in-Some.stepping.now _ (sym c.in-Some.ensures.value) (sym c.step.ensures.same_spots)
 
 pub invariant_of-self-then-ends_access : goal.invariant_of-self-then-ends_access
 invariant_of-self-then-ends_access c =
     let kept = c.self.inside in
     counted_set kept.by_number.entries kept.through.entries kept.last c.self.invariant c.args.number
-    c.in-Some.stepping.now _ (sym c.in-Some.ensures.value) (sym c.step.ensures.same_place)
+    c.in-Some.stepping.now _ (sym c.in-Some.ensures.value) (sym c.step.ensures.same_spots)
 
 pub invariant_of-self-else-ends_access : goal.invariant_of-self-else-ends_access
 invariant_of-self-else-ends_access c =
     let kept = c.self.inside in
     counted_set kept.by_number.entries kept.through.entries kept.last c.self.invariant c.args.number
-    c.in-Some.stepping.now _ (sym c.in-Some.ensures.value) (sym c.step.ensures.same_place)
+    c.in-Some.stepping.now _ (sym c.in-Some.ensures.value) (sym c.step.ensures.same_spots)
 
 pub returns-in_err-outcome-clause-err : goal.returns-in_err-outcome-clause-err
 returns-in_err-outcome-clause-err c =
