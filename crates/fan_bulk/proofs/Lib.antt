@@ -1,0 +1,4 @@
+pub mod FileLemmas
+pub mod RoundLemmas
+pub mod ScriptLemmas
+pub mod SummaryLemmas
