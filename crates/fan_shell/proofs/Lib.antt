@@ -1,9 +1,11 @@
+pub mod BulkLemmas
 pub mod CommandLemmas
 pub mod CompleteLemmas
+pub mod LfLemmas
 pub mod OutcomeLemmas
 pub mod PlayLemmas
 pub mod RunLemmas
+pub mod ScriptTextLemmas
 pub mod SplitLemmas
 pub mod StepLemmas
-pub mod TakenLemmas
 pub mod TranscriptLemmas

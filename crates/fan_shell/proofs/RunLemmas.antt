@@ -15,16 +15,16 @@ abbrev pub first_of : WorldState → ℕ → Outcome
 first_of world access = next world (steps.Advance access)
 
 -- what a run goes on with, once its first single step is made
-abbrev more_of : ℕ → WorldState → ℕ → Ran
+abbrev pub more_of : ℕ → WorldState → ℕ → Ran
 more_of left world access = ran (left - 1) (first_of world access).world access
 
 -- a run of no single steps has no answers
-run_none : (world : WorldState) (access : ℕ) → ran 0 world access ≡ record { answers = []; world = world }
+pub run_none : (world : WorldState) (access : ℕ) → ran 0 world access ≡ record { answers = []; world = world }
 unfolding ran
 run_none world access = refl
 
 -- the first single step ends the run
-run_ends : (left : ℕ) (world : WorldState) (access : ℕ) → 0 < left
+pub run_ends : (left : ℕ) (world : WorldState) (access : ℕ) → 0 < left
     → is_last (first_of world access).reply ≡ true
     → ran left world access ≡ record {
       answers = (first_of world access).reply ∷ [];
@@ -35,7 +35,7 @@ run_ends zero world access some ends = absurd (omega arith)
 run_ends (suc left) world access some ends = rw ends refl
 
 -- the first single step goes on
-run_goes_on : (left : ℕ) (world : WorldState) (access : ℕ) → 0 < left
+pub run_goes_on : (left : ℕ) (world : WorldState) (access : ℕ) → 0 < left
     → is_last (first_of world access).reply ≡ false
     → ran left world access ≡ record {
       answers = (first_of world access).reply ∷ (more_of left world access).answers;

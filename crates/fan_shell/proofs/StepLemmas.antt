@@ -15,13 +15,13 @@ use Rattle.fan_shell.specs.Steps.{steps_of, all_steps, replies_to, all_texts}
 use Rattle.fan_print.specs.Texts.{answers_text}
 
 -- single steps of an access, one for each of some answers
-abbrev singles : ℕ → List Reply → List Step
+abbrev pub singles : ℕ → List Reply → List Step
 singles access answers = map (λ answer. steps.Advance access) answers
 
 -- a run is what its single steps make of the world
-record IsRun (world : WorldState) (access : ℕ) (run : Ran) : Type 0 where
-  replies : replies_to world (singles access run.answers) ≡ run.answers
-  world_after : after world (singles access run.answers) ≡ run.world
+pub record IsRun (world : WorldState) (access : ℕ) (run : Ran) : Type 0 where
+  pub replies : replies_to world (singles access run.answers) ≡ run.answers
+  pub world_after : after world (singles access run.answers) ≡ run.world
 
 module _ (world : WorldState) (access : ℕ) where
   abbrev first : Outcome
@@ -41,7 +41,8 @@ module _ (world : WorldState) (access : ℕ) where
     world_after = is.world_after;
   }
 
-ran_is : (count : ℕ) (world : WorldState) (access : ℕ) → IsRun world access (ran count world access)
+-- a run is what its single steps make of the world
+pub ran_is : (count : ℕ) (world : WorldState) (access : ℕ) → IsRun world access (ran count world access)
 unfolding ran
 ran_is zero world access = record { replies = refl; world_after = refl }
 ran_is (suc count) world access =
@@ -61,7 +62,7 @@ answered_by_steps world (Run access) =
     let run = ran_is max_answers world access in rw (run.replies, run.world_after) refl
 
 -- the world after steps and further steps
-after-append : (world : WorldState) (steps more : List Step)
+pub after-append : (world : WorldState) (steps more : List Step)
     → after world (steps ++ more) ≡ after (after world steps) more
 after-append world [] more = refl
 after-append world (step ∷ steps) more = after-append (next world step).world steps more

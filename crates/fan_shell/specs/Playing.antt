@@ -1,22 +1,11 @@
 -- Playing a script line by line, one function for each function of the player. No caller has to believe it.
-use Rattle.std.specs.Prelude.{ℕ, ◌+◌, List, [], ◌∷◌, Option, Some, None, if◌then◌else◌}
-use Rattle.fan_script.specs.Built.{is_built}
+use Rattle.std.specs.Prelude.{ℕ, ◌+◌, List, [], ◌∷◌, Option, Some, None}
 use Rattle.fan_script.specs.declared.line.Line.{Line}
 use Rattle.fan_script.specs.declared.line.Line.TheVariants.{One, Run}
 use Rattle.fan_script.specs.Reading.{line_at}
 use Rattle.fan_machine.specs.World.{WorldState, initial_world}
 use Rattle.fan_shell.specs.declared.status.Status.TheVariants as statuses
 use Rattle.fan_shell.specs.Script.{Printed, answered, bad_line_text, behind, lines_of}
-
--- a line whose step is built
-abbrev pub if_built : Option Line → Option Line
-if_built None = None
-if_built (Some (One step)) = if is_built step then Some (One step) else None
-if_built (Some (Run access)) = Some (Run access)
-
--- the line that the bytes are, where its step is built
-unfoldable pub taken_at : List ℕ → Option Line
-taken_at bytes = if_built (line_at bytes)
 
 -- the text of one line, and the world that the next line starts from, if there is one
 pub record Turn : Type 0 where
@@ -31,7 +20,7 @@ turn_by (Some line) world number =
 
 -- the same of the bytes of a line
 unfoldable pub turn : WorldState → ℕ → List ℕ → Turn
-turn world number bytes = turn_by (taken_at bytes) world number
+turn world number bytes = turn_by (line_at bytes) world number
 
 -- a text, and then what the lines print that follow it, if there is a world to start from
 abbrev pub after_turn : List ℕ → Option WorldState → (WorldState → Printed) → Printed

@@ -2,7 +2,6 @@
 use Rattle.std.specs.Prelude.{◌≡◌, ℕ, ◌+◌, ◌==◌, List, [], ◌∷◌, ◌++◌, Option, Some, None, length, codes, if◌then◌else◌}
 use Rattle.std.specs.Fmt.{decimal}
 use Rattle.std.specs.List.{slice_split}
-use Rattle.fan_script.specs.Built.{IsBuilt}
 use Rattle.fan_script.specs.declared.line.Line.{Line}
 use Rattle.fan_script.specs.declared.line.Line.TheVariants.{One, Run}
 use Rattle.fan_script.specs.Lines.{LineOf}
@@ -23,14 +22,10 @@ without_empty_last (piece ∷ next ∷ more) = piece ∷ without_empty_last (nex
 unfoldable pub lines_of : List ℕ → List (List ℕ)
 lines_of bytes = without_empty_last (slice_split (λ byte. byte == 10) bytes)
 
--- the bytes spell this line, and its step is built
-abbrev pub Takes : List ℕ → Line → Type 0
-Takes bytes line = LineOf bytes line × IsBuilt line
-
 -- bytes are this line, or a bad line
 abbrev pub Taken : List ℕ → Option Line → Type 0
-Taken bytes (Some line) = Takes bytes line
-Taken bytes None = (line : Line) → Takes bytes line → ⊥
+Taken bytes (Some line) = LineOf bytes line
+Taken bytes None = (line : Line) → LineOf bytes line → ⊥
 
 -- the lines that the pieces are, up to the first bad one
 abbrev pub AllTaken : List (List ℕ) → List (Option Line) → Type 0
@@ -82,7 +77,7 @@ pub record Transcript (bytes text : List ℕ) (status : Status) : Type 0 where
 -- each of the pieces is a line
 abbrev pub AreLines : List (List ℕ) → Type 0
 AreLines [] = Unit {0}
-AreLines (bytes ∷ more) = ((line : Line) × Takes bytes line) × AreLines more
+AreLines (bytes ∷ more) = ((line : Line) × LineOf bytes line) × AreLines more
 
 -- no line of the script is a bad one
 abbrev pub IsValid : List ℕ → Type 0

@@ -45,3 +45,11 @@ abbrev pub EndsUsage : Status → Type 0
 EndsUsage statuses.Usage = Unit {0}
 EndsUsage statuses.WriteFault = Unit {0}
 EndsUsage _ = ⊥
+
+-- what `bulk` may end with: COUNT is too great, or the summary was written or cut off
+abbrev pub EndsBulk : Status → Type 0
+EndsBulk statuses.Ok = Unit {0}
+EndsBulk statuses.TooLong = Unit {0}
+EndsBulk statuses.WriteFault = Unit {0}
+EndsBulk statuses.NoMemory = Unit {0}
+EndsBulk _ = ⊥

@@ -1,9 +1,13 @@
 // Laws about scripts, each the contract of a function that does nothing.
-ghost use Rattle.std.specs.Prelude.{◌≡◌, ◌++◌, ℕ, List, Option, Some, map};
+ghost use Rattle.std.specs.Prelude.{◌≡◌, ◌≤◌, ◌++◌, ℕ, List, Option, Some, All, map};
+ghost use Rattle.fan_bulk.specs.Lines.{bulk_lines};
+ghost use Rattle.fan_machine.specs.World.{initial_world};
 ghost use Rattle.fan_script.specs.declared.line.Line.{Line};
+ghost use Rattle.fan_script.specs.Lines.{Fits};
+ghost use Rattle.fan_shell.specs.Bulk.{most_rounds, script_text};
 ghost use Rattle.fan_shell.specs.Outcome.{Outcome};
 ghost use Rattle.fan_shell.specs.Script.{IsValid, Transcript};
-ghost use Rattle.fan_shell.specs.Steps.{printed_by_steps};
+ghost use Rattle.fan_shell.specs.Steps.{all_texts, printed_by_steps};
 
 use crate::command::Command;
 use crate::status::Status;
@@ -36,4 +40,13 @@ pub fn transcripts_follow_the_steps()
         (good : List Line) (later : List (Option Line))
         → transcript.lines ≡ map (λ line. Some line) good ++ later
         → printed_by_steps good later ≡ record { text = text; status = status } }
+{}
+
+/// The text of lines of the grammar is a script whose transcript has the replies to their steps, and whose
+/// status is 0 (`lines`). So it is with the script of `bulk` (`bulk`).
+pub fn lines_are_a_script()
+    ensures lines { (lines : List Line) → All Fits lines
+        → Transcript (script_text lines) (all_texts initial_world lines) Status.Ok }
+    ensures bulk { (seed count : ℕ) → count ≤ most_rounds → let lines = bulk_lines seed count in
+        Transcript (script_text lines) (all_texts initial_world lines) Status.Ok }
 {}

@@ -1,13 +1,15 @@
 // The top call: the commands, and for words that name none the usage line.
-ghost use Rattle.std.specs.Prelude.{◌≡◌, ◌≢◌, ◌⊎◌, ◌≤◌, ℕ, length, IfSome};
+ghost use Rattle.std.specs.Prelude.{◌≡◌, ◌≢◌, ◌⊎◌, ◌↔◌, ◌<◌, ◌≤◌, ℕ, length, IfSome};
 ghost use Rattle.std.specs.Io.KnownBytes.{Appends, IsAtEnd};
 ghost use Rattle.fan_io.specs.Bytes.{AppendsFront, GaveAtMost, GaveMore};
 ghost use Rattle.fan_io.specs.Faults.{Rose};
-ghost use Rattle.fan_shell.specs.Command.{Names, NamesNone};
+ghost use Rattle.fan_shell.specs.Bulk.{bulk_text, most_rounds};
+ghost use Rattle.fan_shell.specs.Command.{Names, NamesBulk, NamesNone, NamesOne};
 ghost use Rattle.fan_shell.specs.Outcome.{most_input, usage_line, Tells, TellsFront, Completes};
-ghost use Rattle.fan_shell.specs.Status.{IsTold, IsToldOrCut, Ends, EndsUsage};
+ghost use Rattle.fan_shell.specs.Status.{IsTold, IsToldOrCut, Ends, EndsBulk, EndsUsage};
 
-use crate::command::{Command, command_of};
+use crate::bulk::write_bulk;
+use crate::command::{Command, Form, form_of};
 use crate::dump::write_records;
 use crate::script::write_transcript;
 use crate::status::Status;
@@ -89,8 +91,9 @@ fn run_command<S: Source, K: Sink>(
 }
 
 /// Does the command that the words name, over a source and a sink, and answers how it ended. It
-/// always returns. A command writes what it answers to the source's bytes: `script` the transcript,
-/// `dump` the lines of the records. Words that name none write the usage line.
+/// always returns. `script` and `dump` write what they answer to the source's bytes: the transcript, and the
+/// lines of the records. `bulk` reads nothing, and writes the summary of its script. Words that name no
+/// command write the usage line.
 pub fn run_plain<S: Source, K: Sink>(
     alloc: Global,
     words: &[String],
@@ -101,8 +104,9 @@ pub fn run_plain<S: Source, K: Sink>(
     ensures told { (command : Command) → Names words.now command → IsTold result
         → IfSome (S.left source.old)
         (λ bytes. Tells command (K.held sink.old) (K.held sink.new) bytes result) }
-    ensures end { IsTold result → IsAtEnd (S.left source.new) }
-    ensures told_words { IsTold result → (command : Command) × Names words.now command }
+    ensures end { (command : Command) → Names words.now command → IsTold result
+        → IsAtEnd (S.left source.new) }
+    ensures told_words { IsTold result → NamesOne words.now }
 
     // However a command ends, a front of its answer is written, and nothing else.
     ensures front { (command : Command) → Names words.now command → IfSome (S.left source.old)
@@ -126,10 +130,26 @@ pub fn run_plain<S: Source, K: Sink>(
         → Rose (S.faults source.old) (S.faults source.new) }
     ensures write_fault { result ≡ Status.WriteFault
         → Rose (K.faults sink.old) (K.faults sink.new) }
-    ensures too_long { result ≡ Status.TooLong
+    ensures too_long { (command : Command) → Names words.now command → result ≡ Status.TooLong
         → GaveMore (S.left source.old) (S.left source.new) most_input }
     ensures not_too_long { result ≢ Status.TooLong
         → GaveAtMost (S.left source.old) (S.left source.new) most_input }
+
+    // `bulk` writes the summary of its script, or nothing where it has too many rounds or memory ran out.
+    ensures bulk { (seed count : ℕ) → NamesBulk words.now seed count → result ≡ Status.Ok
+        → Appends (K.held sink.old) (K.held sink.new) (bulk_text seed count) }
+    ensures bulk_front { (seed count : ℕ) → NamesBulk words.now seed count
+        → AppendsFront (K.held sink.old) (K.held sink.new) (bulk_text seed count) }
+    ensures bulk_ends { (seed count : ℕ) → NamesBulk words.now seed count → EndsBulk result }
+    ensures bulk_too_long { (seed count : ℕ) → NamesBulk words.now seed count
+        → (result ≡ Status.TooLong) ↔ (most_rounds < count) }
+    ensures bulk_unwritten { (seed count : ℕ) → NamesBulk words.now seed count
+        → result ≡ Status.NoMemory → sink.new ≡ sink.old }
+    ensures bulk_complete { (seed count : ℕ) → NamesBulk words.now seed count → count ≤ most_rounds
+        → (Rose (K.faults sink.old) (K.faults sink.new) → ⊥)
+        → (result ≡ Status.Ok) ⊎ (result ≡ Status.NoMemory) }
+    ensures bulk_untouched { (seed count : ℕ) → NamesBulk words.now seed count
+        → source.new ≡ source.old }
 
     // Words that name no command.
     ensures usage { result ≡ Status.Usage → Appends (K.held sink.old) (K.held sink.new) usage_line }
@@ -139,8 +159,9 @@ pub fn run_plain<S: Source, K: Sink>(
         → AppendsFront (K.held sink.old) (K.held sink.new) usage_line }
     ensures untouched { NamesNone words.now → source.new ≡ source.old }
 {
-    match command_of(words) {
-        Some(command) => run_command(alloc, command, source, sink),
-        None => write_usage(sink),
+    match form_of(words) {
+        Form::Input(command) => run_command(alloc, command, source, sink),
+        Form::Bulk(seed, count) => write_bulk(alloc, seed, count, sink),
+        Form::Other => write_usage(sink),
     }
 }

@@ -14,10 +14,10 @@ use fan_script::{Reply, Step};
 use fan_world::World;
 
 // How many single steps a run has at most.
-const MAX_ANSWERS: u32 = 385;
+pub(crate) const MAX_ANSWERS: u32 = 641;
 
 // Whether an answer ends a run.
-fn is_last(reply: &Reply) -> bool
+pub(crate) fn is_last(reply: &Reply) -> bool
     ensures { result ≡ is_last reply.now }
 {
     match reply {
@@ -64,11 +64,11 @@ fn push_more(world: &mut World, access: u32, left: u32, out: &mut Vec<u8>) -> Re
 /// Does the single steps of an access until it waits or is finished, and puts their answers at the
 /// end.
 pub(crate) fn push_run(world: &mut World, access: u32, out: &mut Vec<u8>) -> Result<(), NoMemory>
-    requires { world.old.steps + 385 ≤ 2 ^ 30 }
+    requires { world.old.steps + MAX_ANSWERS ≤ 2 ^ 30 }
     ensures ok { OnOk result ((state : WorldState) → IsMachine world.old state
         → (let run = ran max_answers state access in
         IsAnswered world.new out.old.items out.new.items (answers_text run.answers) run.world)) }
-    ensures steps { world.new.steps ≤ world.old.steps + 385 }
+    ensures steps { world.new.steps ≤ world.old.steps + MAX_ANSWERS }
 {
     let ends = push_answer(world, access, out)?;
     if ends {

@@ -3,44 +3,31 @@ ghost use Rattle.std.specs.Prelude.{◌≡◌, ◌≢◌, ◌+◌, ◌*◌, ◌<
 ghost use Rattle.std.specs.Io.KnownBytes.{Appends};
 ghost use Rattle.fan_io.specs.Bytes.{AppendsFront};
 ghost use Rattle.fan_io.specs.Faults.{Rose};
+ghost use Rattle.fan_script.specs.Reading.{line_at};
 ghost use Rattle.fan_machine.specs.World.{WorldState, initial_world};
 ghost use Rattle.fan_shell.specs.Answers.{IsAnswered, IsTurn};
-ghost use Rattle.fan_shell.specs.Playing.{if_built, taken_at, turn, play};
+ghost use Rattle.fan_shell.specs.Playing.{turn, play};
 ghost use Rattle.fan_shell.specs.Status.{IsTold, IsToldOrCut};
 ghost use Rattle.fan_shell.specs.Script.{answered, bad_line_text, lines_of};
 ghost use Rattle.fan_world.specs.Machine.{IsMachine};
 
 use crate::command::Command;
-use crate::run::push_run;
+use crate::run::{MAX_ANSWERS, push_run};
 use crate::status::Status;
 use fan_io::{Failed, NoMemory, Sink, put_all};
 use fan_print::{print_decimal, print_reply, print_text};
-use fan_script::{Line, LineRefused, built, read_line};
+use fan_script::{Line, LineRefused, read_line};
 use fan_world::World;
 use std::alloc::Global;
 
-// The line, where its step is built.
-fn if_built(line: Line) -> Option<Line>
-    ensures { result ≡ if_built (Some line) }
-{
-    match line {
-        Line::One(step) => if built(&step) {
-            Some(Line::One(step))
-        } else {
-            None
-        },
-        Line::Run(access) => Some(Line::Run(access)),
-    }
-}
-
-// The line that the bytes are, if they are one whose step is built.
-#[tactic(auto, using(fan_script::proofs::LineLemmas::no_line_from_bad), unfolding(crate::specs::Playing::taken_at))]
+// The line that the bytes are, if they are one.
+#[tactic(auto, using(fan_script::proofs::LineLemmas::no_line_from_bad))]
 fn read_if_line(alloc: Global, bytes: &[u8]) -> Result<Option<Line>, NoMemory>
-    ensures line { IfOk result (λ line. line ≡ taken_at bytes.now) }
+    ensures line { IfOk result (λ line. line ≡ line_at bytes.now) }
     ensures long { IfOk result (λ line. IfSome line (λ _. 4 ≤ length bytes.now)) }
 {
     match read_line(alloc, bytes) {
-        Ok(line) => Ok(if_built(line)),
+        Ok(line) => Ok(Some(line)),
         Err(LineRefused::BadLine) => Ok(None),
         Err(LineRefused::NoMemory) => Err(NoMemory),
     }
@@ -49,11 +36,11 @@ fn read_if_line(alloc: Global, bytes: &[u8]) -> Result<Option<Line>, NoMemory>
 // Does what a line asks for, and puts the text that answers it at the end.
 #[tactic(auto, using(std::proofs::Common::append_assoc), unfolding(crate::specs::Script::answered))]
 fn push_answered(world: &mut World, line: &Line, out: &mut Vec<u8>) -> Result<(), NoMemory>
-    requires { world.old.steps + 385 ≤ 2 ^ 30 }
+    requires { world.old.steps + MAX_ANSWERS ≤ 2 ^ 30 }
     ensures ok { OnOk result ((state : WorldState) → IsMachine world.old state
         → (let answer = answered state line.now in
         IsAnswered world.new out.old.items out.new.items answer.text answer.world)) }
-    ensures steps { world.new.steps ≤ world.old.steps + 385 }
+    ensures steps { world.new.steps ≤ world.old.steps + MAX_ANSWERS }
 {
     match line {
         Line::One(step) => {
@@ -84,10 +71,10 @@ fn answer_line(
     bytes: &[u8],
     out: &mut Vec<u8>,
 ) -> Result<bool, NoMemory>
-    requires { world.old.steps + 385 ≤ 2 ^ 30 }
+    requires { world.old.steps + MAX_ANSWERS ≤ 2 ^ 30 }
     ensures ok { IfOk result (λ good. (state : WorldState) → IsMachine world.old state
         → IsTurn world.new out.old.items out.new.items good (turn state number bytes.now)) }
-    ensures steps { world.new.steps ≤ world.old.steps + 385 }
+    ensures steps { world.new.steps ≤ world.old.steps + MAX_ANSWERS }
     ensures long { IfOk result (λ good. good ≡ true → 4 ≤ length bytes.now) }
 {
     match read_if_line(alloc, bytes)? {

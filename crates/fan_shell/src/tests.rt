@@ -24,6 +24,14 @@ const RECORD: &[u8] = b"\x18\0\0\0\x03\0\x18\0\x08\0\0\0\0\0\0\0\x28\0\0\0\x64\0
 const USAGE: &[u8] =
     b"usage: fanwatch script | dump | check | bulk SEED COUNT | race SEED WORKERS COUNT\n";
 
+// No round: 18 lines, of which none is refused, and no event.
+const BULK_0: &[u8] =
+    b"lines 18\nasked 0\nallowed 0\ndenied 0\ntold 0\nread 0\nreclaimed 0\nrefused 0\n";
+
+// The first draw below 8 from seed 1 is 6, and group 3 has no mark on a file of `/d`.
+const BULK_1: &[u8] =
+    b"lines 19\nasked 0\nallowed 0\ndenied 0\ntold 0\nread 0\nreclaimed 0\nrefused 1\n";
+
 // How a command ends whose source and sink fail at these calls, where 0 is no call, and what it wrote.
 fn ended(
     alloc: Global,
@@ -64,7 +72,7 @@ fn assert_plays(rt: &(impl Abort + AllocGlobal), lines: &str) -> Result<(), Fail
 
 #[test]
 fn commands_end_with_their_status_and_text(rt: HostRuntime) -> Result<(), Fail> {
-    let table: [(&[&str], &[u8], Status, &[u8]); 10] = [
+    let table: [(&[&str], &[u8], Status, &[u8]); 16] = [
         (&["script"], FIRST, Status::Ok, FIRST_TEXT),
         (&["script"], b"", Status::Ok, b""),
         (
@@ -77,6 +85,17 @@ fn commands_end_with_their_status_and_text(rt: HostRuntime) -> Result<(), Fail> 
         (&["dump"], b"", Status::Ok, b""),
         (&["dump"], RECORD, Status::Ok, b"event 8 fd 40 pid 100\n"),
         (&["dump"], FIRST, Status::BadRecord, b"bad record at 0\n"),
+        (&["bulk", "1", "0"], FIRST, Status::Ok, BULK_0),
+        (&["bulk", "1", "1"], b"", Status::Ok, BULK_1),
+        (&["bulk", "1", "100001"], FIRST, Status::TooLong, b""),
+        (&["bulk", "1"], FIRST, Status::Usage, USAGE),
+        (&["bulk", "1", "01"], FIRST, Status::Usage, USAGE),
+        (
+            &["bulk", "18446744073709551616", "1"],
+            FIRST,
+            Status::Usage,
+            USAGE,
+        ),
         (&[], FIRST, Status::Usage, USAGE),
         (&["scripts"], FIRST, Status::Usage, USAGE),
         (&["script", "script"], FIRST, Status::Usage, USAGE),

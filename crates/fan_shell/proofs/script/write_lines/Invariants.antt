@@ -2,11 +2,11 @@ use Rattle.std.proofs.Common.{◌≤◌, ◌+◌, ◌*◌, length}
 use Rattle.fan_shell.proofs.PlayLemmas.{Leads}
 use Rattle.fan_shell.proofs.script.write_lines.Given as goal
 
--- what was put is what the lines so far print; each line has four bytes and makes 385 steps at most
+-- what was put is what the lines so far print; each line has four bytes and makes 641 steps at most
 abbrev pub invariant-loop-rest : goal.invariant-loop-rest
 invariant-loop-rest g l = record {
   leads : Leads (g.K.Sink.held l.fn.sink) (g.K.Sink.held l.sink) l.script l.rest l.world l.number;
-  steps : 4 * l.world.steps + 385 * length l.rest ≤ 385 * length l.script;
+  steps : 4 * l.world.steps + 641 * length l.rest ≤ 641 * length l.script;
   numbers : l.number + length l.rest ≤ length l.script + 1;
   later : g.K.Sink.faults l.fn.sink ≤ g.K.Sink.faults l.sink;
 }
