@@ -1,0 +1,4 @@
+pub mod Coding
+pub mod Costs
+pub mod Rows
+pub mod Trees
