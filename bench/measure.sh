@@ -11,10 +11,11 @@ print(f"Wall time (s): {took:.2f}\nMaximum resident set size (kbytes): {peak}", 
 sys.exit(status)
 '
 
-# measure INPUT [WORD]: runs the program with the word, or else `script`, on what the function INPUT writes. What
-# the program prints is thrown away.
+# measure INPUT [WORD..]: runs the program with the words, or else `script`, on what the function INPUT writes.
+# What the program prints is thrown away.
 measure() {
-    local input measured word=${2-script} status=0
+    local input measured words=("${@:2}") status=0
+    [[ ${#words[@]} -gt 0 ]] || words=(script)
     input=$(mktemp)
     measured=$(mktemp)
     trap "rm -f -- '$input' '$measured'" EXIT
@@ -24,10 +25,10 @@ measure() {
     "$top/fanwatch" script <"$top/examples/first.fan" >/dev/null
 
     if [[ -x /usr/bin/time ]]; then
-        /usr/bin/time -v -o "$measured" "$top/fanwatch" "$word" <"$input" >/dev/null || status=$?
+        /usr/bin/time -v -o "$measured" "$top/fanwatch" "${words[@]}" <"$input" >/dev/null || status=$?
         grep -E 'Elapsed|Maximum resident' "$measured" | tr -d '\t'
     else
-        python3 -c "$by_python" "$measured" "$top/fanwatch" "$word" <"$input" >/dev/null || status=$?
+        python3 -c "$by_python" "$measured" "$top/fanwatch" "${words[@]}" <"$input" >/dev/null || status=$?
         cat -- "$measured"
     fi
     echo "Status of the program: $status"
