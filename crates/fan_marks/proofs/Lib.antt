@@ -2,6 +2,7 @@ pub mod Clearing
 pub mod Dropping
 pub mod FirstOfGroup
 pub mod Found
+pub mod Marked
 pub mod MarkLists
 pub mod MarksOf
 pub mod Orders

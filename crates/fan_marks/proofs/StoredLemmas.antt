@@ -46,7 +46,7 @@ pub stored_in : (book : Inside) (now : BookState) → the_invariant book → the
     → AreStored now.marks book.by_object.entries book.by_group.entries book.counts.entries
 stored_in book now is seen =
     subst (λ all. AreStored all book.by_object.entries book.by_group.entries book.counts.entries)
-    (ap (λ (book : BookState). book.marks) seen) is
+    (ap (λ (book : BookState). book.marks) seen) is.0
 
 -- a mark of a list has its class in common with those of its group
 pub storable_at : (marks : List Mark) (key : ObjectKey) (mark : Mark) → IsMarkList marks

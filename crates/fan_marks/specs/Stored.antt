@@ -1,5 +1,5 @@
 -- How a book stores its marks. No public clause cites this module.
-use Rattle.std.specs.Prelude.{◌≡◌, ℕ, ◌≤◌, List, All, map, find, length}
+use Rattle.std.specs.Prelude.{◌≡◌, ℕ, ◌≤◌, Bool, true, List, All, map, find, length}
 use Rattle.std.specs.BTreeMap.{is_at}
 use Rattle.std.specs.Map.{lookup, values_of}
 use Rattle.std.specs.Option.{option_map}
@@ -10,6 +10,7 @@ use Rattle.fan_map.specs.Counts.{number_at}
 use Rattle.fan_marks.specs.declared.keys.GroupKey.{GroupKey}
 use Rattle.fan_marks.specs.declared.keys.ObjectKey.{ObjectKey}
 use Rattle.fan_marks.specs.Keys.{group_cmp, has_group_key, object_key}
+use Rattle.fan_seen.specs.Seen.{has}
 
 -- how many marks a book holds at most, so that their number is a u32
 abbrev pub max_stored : ℕ
@@ -42,3 +43,7 @@ pub record AreStored (marks : List Mark) (by_object : List (ObjectKey × Mark))
 -- the same of the marks that the first index has
 abbrev pub IsStored : List (ObjectKey × Mark) → List (GroupKey × Class) → List (ℕ × ℕ) → Type 0
 IsStored by_object by_group counts = AreStored (values_of by_object) by_object by_group counts
+
+-- the objects of marks are in a set
+abbrev pub AreMarked : List Bool → List Mark → Type 0
+AreMarked marked marks = All (λ mark. has marked mark.object ≡ true) marks

@@ -13,6 +13,7 @@ use fan_bits::{Change, Changed, Class, Connectors, Errno, Mark, Order};
 use fan_io::NoMemory;
 use fan_map::Map;
 use fan_map::counts::number_at;
+use fan_seen::Seen;
 use std::alloc::Global;
 use std::marker::Model;
 use std::ops::Bound;
@@ -32,6 +33,8 @@ pub struct MarkBook {
     pub(crate) by_group: Map<GroupKey, Class>,
     // How many marks each group has that has one.
     pub(crate) counts: Map<u32, u32>,
+    // The objects on which a mark ever stood, so that none is searched for on the others.
+    pub(crate) marked: Seen,
 }
 
 impl Model for MarkBook {
@@ -41,7 +44,7 @@ impl Model for MarkBook {
 
     ghost use Rattle.std.specs.Prelude.{◌-◌, length, min};
     ghost use Rattle.std.specs.Map.{values_of};
-    ghost use Rattle.fan_marks.specs.Stored.{IsStored, max_stored};
+    ghost use Rattle.fan_marks.specs.Stored.{AreMarked, IsStored, max_stored};
 
     ghost view = { λ b. record {
       marks = values_of b.by_object.entries;
@@ -49,11 +52,15 @@ impl Model for MarkBook {
           (min b.counts.spare (max_stored - length b.by_object.entries));
     } };
 
-    ghost invariant = { λ b. IsStored b.by_object.entries b.by_group.entries b.counts.entries };
+    ghost invariant = { λ b. IsStored b.by_object.entries b.by_group.entries b.counts.entries
+        × AreMarked b.marked (values_of b.by_object.entries) };
 }
 
 impl MarkBook {
     /// A book without marks.
+    ///
+    /// # Errors
+    /// `NoMemory` if there was none.
     pub fn new(alloc: Global) -> Result<MarkBook, NoMemory>
         ensures empty { IfOk result (λ book. book.marks ≡ []) }
     {
@@ -61,6 +68,7 @@ impl MarkBook {
             by_object: Map::new(alloc),
             by_group: Map::new(alloc),
             counts: Map::new(alloc),
+            marked: Seen::new(alloc)?,
         })
     }
 
@@ -92,6 +100,9 @@ impl MarkBook {
             ≤ vec_capacity out.old → IsOk result }
         ensures whole { IsMarkList self.now.marks }
     {
+        if !self.marked.has(object) {
+            return Ok(());
+        }
         let start = ObjectKey {
             object,
             order: Order::START,

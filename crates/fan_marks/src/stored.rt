@@ -52,6 +52,9 @@ impl MarkBook {
         ensures mark { result ≡ next_on self.now.marks object after.0 }
         ensures whole { AreWhole self.now.marks }
     {
+        if !self.marked.has(object) {
+            return None;
+        }
         let after = ObjectKey {
             object,
             order: after,
@@ -96,6 +99,7 @@ impl MarkBook {
         ensures marks { self.new.marks ≡ replaced self.old.marks (object_key mark) (Some mark) }
         ensures whole { AreWhole self.new.marks }
     {
+        self.marked.add(mark.object);
         self.by_object.insert_reserved(ObjectKey::of(&mark), mark);
         self.by_group
             .insert_reserved(GroupKey::of(&mark), mark.class);

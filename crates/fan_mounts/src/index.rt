@@ -1,9 +1,11 @@
 // The mounts by what they stand on.
-ghost use Rattle.std.specs.Prelude.{◌≡◌, ℕ, None, Some, OnErr, OnOk, count_by, is_some, true, false};
+ghost use Rattle.std.specs.Prelude.{◌≡◌, ℕ, None, Some, IfOk, OnErr, OnOk, count_by, is_some, true, false};
+ghost use Rattle.fan_bits.specs.Places.{IsObject};
 ghost use Rattle.fan_mounts.specs.Pairs.{Drops, IsEmptied, IsSame, Puts, has_number, standing};
 
 use super::mount::{Mount, MountPoint};
 use fan_io::NoMemory;
+use fan_seen::Seen;
 use std::alloc::Global;
 use std::collections::BTreeMap;
 use std::marker::Model;
@@ -14,16 +16,19 @@ pub(crate) struct Index {
     by_point: BTreeMap<(u32, u32), Mount>,
     // The same by the numbers of the directory and the mount, in this order.
     by_dir: BTreeMap<(u32, u32), Mount>,
+    // The directories on which a mount stands, and others on which one stood.
+    dirs: Seen,
 }
 
 impl Model for Index {
-    ghost use Rattle.fan_mounts.specs.Pairs.{Entries, IsTurned, standing};
+    ghost use Rattle.fan_mounts.specs.Index.{IsIndex};
+    ghost use Rattle.fan_mounts.specs.Pairs.{Entries};
 
     ghost Value = { Entries };
 
     ghost view = { λ i. i.by_point.entries };
 
-    ghost invariant = { λ i. IsTurned (standing i.by_point.entries) (standing i.by_dir.entries) };
+    ghost invariant = { λ i. IsIndex i.by_point.entries i.by_dir.entries i.dirs };
 }
 
 // Whether something stands at a first number.
@@ -64,19 +69,23 @@ fn take(by_pair: &mut BTreeMap<(u32, u32), Mount>, first: u32, second: u32)
 
 impl Index {
     /// Nothing stands anywhere.
-    pub(crate) fn new(alloc: Global) -> Index
-        ensures { (mount dir : ℕ) → standing result mount dir ≡ None }
+    pub(crate) fn new(alloc: Global) -> Result<Index, NoMemory>
+        ensures { IfOk result (λ index. (mount dir : ℕ) → standing index mount dir ≡ None) }
     {
-        Index {
+        Ok(Index {
             by_point: BTreeMap::new(alloc),
             by_dir: BTreeMap::new(alloc),
-        }
+            dirs: Seen::new(alloc)?,
+        })
     }
 
-    /// The mount that stands on a directory of a mount.
+    /// The mount that stands on a directory of a mount. No search is made where none ever stood.
     pub(crate) fn at(&self, mount: u32, dir: u32) -> Option<Mount>
         ensures { result ≡ standing self.now mount dir }
     {
+        if !self.dirs.has(dir) {
+            return None;
+        }
         self.by_point.get(&(mount, dir)).copied()
     }
 
@@ -100,11 +109,13 @@ impl Index {
 
     /// Puts a mount on a directory of a mount, on which none stands.
     pub(crate) fn insert(&mut self, mount: u32, dir: u32, found: Mount) -> Result<(), NoMemory>
-        requires { standing self.old mount dir ≡ None }
+        requires object { IsObject dir }
+        requires free { standing self.old mount dir ≡ None }
         ensures ok { OnOk result
             (Puts (standing self.old) (standing self.new) mount dir (Some found)) }
         ensures err { OnErr result (IsSame (standing self.old) (standing self.new)) }
     {
+        self.dirs.add(dir);
         put(&mut self.by_point, mount, dir, found)?;
         if put(&mut self.by_dir, dir, mount, found).is_ok() {
             return Ok(());

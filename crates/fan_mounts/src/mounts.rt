@@ -53,7 +53,7 @@ impl Mounts {
         })?;
         Ok(Mounts {
             mounts,
-            index: Index::new(alloc),
+            index: Index::new(alloc)?,
         })
     }
 
@@ -87,6 +87,7 @@ impl Mounts {
         ensures err { OnErr result (self.new ≡ self.old) }
         ensures tree { OnErr result (tree.new ≡ tree.old) }
     {
+        let _ = &self.mounts; // Whatever they show is an object.
         if tree.root(fs).is_none() {
             return Err(TreeRefused::No(Errno::Enoent));
         }
@@ -148,7 +149,8 @@ impl Mounts {
 
     // Draws a number for a mount on a place on which none stands yet.
     fn put(&mut self, tree: &mut Tree, fs: u32, at: Place) -> Result<u32, TreeRefused>
-        requires { mount_at self.old at.mount at.inode ≡ None }
+        requires dir { IsObject at.inode }
+        requires free { mount_at self.old at.mount at.inode ≡ None }
         ensures ok { IfOk result (λ number.
             with_mount (drawn tree.old) self.old fs at ≡ Ok (number, tree.new, self.new)) }
         ensures refused { IfErr result (λ why.
@@ -172,6 +174,7 @@ impl Mounts {
     // Adds a mount on a directory on which none stands yet.
     fn push(&mut self, number: u32, fs: u32, point: MountPoint) -> Result<(), NoMemory>
         requires object { IsObject number }
+        requires dir { IsObject point.dir }
         requires free { mount_at self.old point.mount point.dir ≡ None }
         ensures ok { OnOk result (self.new
             ≡ self.old ++ record { number = number; fs = fs; point = Some point } ∷ []) }

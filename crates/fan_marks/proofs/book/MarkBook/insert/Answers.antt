@@ -6,6 +6,7 @@ use Rattle.fan_marks.specs.declared.keys.ObjectKey.{ObjectKey}
 use Rattle.fan_marks.specs.Book.{BookState}
 use Rattle.fan_marks.specs.Keys.{group_cmp, object_cmp, object_key, replaced}
 use Rattle.fan_marks.specs.Stored.{AreStored}
+use Rattle.fan_marks.proofs.Marked.{marked_in, marked_inserted, marked_values}
 use Rattle.fan_marks.proofs.StoredLemmas.{stored_absent, stored_in, stored_inserted, stored_lookup, stored_marks, stored_values}
 use Rattle.fan_marks.proofs.book.MarkBook.insert.Goals as goal
 
@@ -39,7 +40,13 @@ stored c =
     c.add_one.ensures
 
 pub invariant_of-self : goal.invariant_of-self
-invariant_of-self c = stored_values (stored c)
+invariant_of-self c =
+    let marked = marked_in c.self.inside c.args.self.now c.self.invariant c.self.view_is in (
+      stored_values (stored c),
+      marked_values c.add.new.self (stored c)
+          (marked_inserted c.self.inside.marked c.args.self.now.marks marked c.add.new.self c.args.mark
+          c.add.ensures),
+    )
 
 pub returns-clause-marks : goal.returns-clause-marks
 returns-clause-marks c = stored_marks (stored c)

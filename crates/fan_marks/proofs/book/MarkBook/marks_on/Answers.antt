@@ -1,13 +1,22 @@
-use Rattle.std.proofs.Common.{◌∙◌, ◌++◌, List, ap, arith}
+use Rattle.std.proofs.Common.{◌≡◌, ◌∙◌, ◌++◌, false, List, ap, arith, sym}
 use Rattle.std.specs.Prelude.{◌==◌, take_while}
 use Rattle.std.specs.Map.{values_of}
-use Rattle.std.proofs.lemmas.List.{length-append}
+use Rattle.std.proofs.lemmas.List.{append-nil, length-append}
 use Rattle.fan_bits.specs.Marks.{on}
 use Rattle.fan_bits.specs.declared.mark.Mark.{Mark}
 use Rattle.fan_marks.specs.declared.keys.ObjectKey.{ObjectKey}
 use Rattle.fan_marks.proofs.Found.{walk_is, walk_left, walk_step}
+use Rattle.fan_marks.proofs.Marked.{marked_in, none_marked}
 use Rattle.fan_marks.proofs.StoredLemmas.{stored_in}
+use Rattle.fan_seen.specs.Seen.{has}
 use Rattle.fan_marks.proofs.book.MarkBook.marks_on.Goals as goal
+
+pub returns-then-not-has-clause-ok : goal.returns-then-not-has-clause-ok
+returns-then-not-has-clause-ok c =
+    let marked = marked_in c.self.inside c.args.self.now c.self.invariant c.self.view_is in
+    let absent : has c.self.inside.marked c.args.object ≡ false = grind (arith, c.has.ensures, c.if-not-has.true) in
+    sym (ap (λ (rest : List Mark). c.args.out.now.items ++ rest) (none_marked c.self.inside.marked c.args.self.now.marks marked c.args.object absent)
+    ∙ append-nil c.args.out.now.items)
 
 pub loop-key-init : goal.loop-key-init
 loop-key-init c =

@@ -5,6 +5,7 @@ use Rattle.std.specs.Map.{lookup}
 use Rattle.fan_marks.specs.declared.keys.GroupKey.{GroupKey}
 use Rattle.fan_marks.specs.Keys.{group_cmp, replaced}
 use Rattle.fan_marks.specs.Stored.{AreStored}
+use Rattle.fan_marks.proofs.Marked.{marked_in, marked_removed, marked_values}
 use Rattle.fan_marks.proofs.StoredLemmas.{stored_counted, stored_in, stored_lookup, stored_marks, stored_removed, stored_values}
 use Rattle.fan_marks.proofs.book.MarkBook.remove.Goals as goal
 
@@ -34,7 +35,12 @@ left c =
     c.take_one.ensures
 
 pub invariant_of-self : goal.invariant_of-self
-invariant_of-self c = stored_values (left c)
+invariant_of-self c =
+    let marked = marked_in c.self.inside c.args.self.now c.self.invariant c.self.view_is in (
+      stored_values (left c),
+      marked_values c.self.inside.marked (left c)
+          (marked_removed c.self.inside.marked c.args.self.now.marks marked c.args.key),
+    )
 
 pub returns-clause-marks : goal.returns-clause-marks
 returns-clause-marks c = stored_marks (left c)
