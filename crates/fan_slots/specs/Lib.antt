@@ -1,3 +1,4 @@
 pub mod SlotsState
 pub mod Placed
 pub mod Lends
+pub mod Seen

@@ -4,6 +4,7 @@
 //! [`Slots::reserve`] makes room and alone allocates, and [`Slots::insert_reserved`] cannot fail then.
 #![tactic(auto)]
 
+mod places;
 mod slots;
 #[cfg(test)]
 mod tests;

@@ -8,8 +8,8 @@ ghost use Rattle.std.specs.Option.{option_copied, option_copied_mut, option_map}
 ghost use Rattle.std.specs.Ordering.{nat_cmp};
 ghost use Rattle.fan_slots.specs.Lends.{lends_value};
 
+use super::places::Places;
 use fan_io::NoMemory;
-use fan_map::Map;
 use slab::Slab;
 use std::alloc::Global;
 use std::marker::Model;
@@ -22,7 +22,7 @@ use std::marker::Model;
 pub struct Slots<V> {
     slots: Slab<V>,
     // The slot of each value by its number.
-    places: Map<u32, usize>,
+    places: Places,
 }
 
 impl<V> Model for Slots<V> {
@@ -48,7 +48,7 @@ impl<V: Drop> Slots<V> {
     {
         Slots {
             slots: Slab::new(alloc),
-            places: Map::new(alloc),
+            places: Places::new(alloc),
         }
     }
 
@@ -57,15 +57,14 @@ impl<V: Drop> Slots<V> {
         ensures least { result ≡ option_map (λ entry. entry.0) (slice_get self.now.entries 0) }
         ensures sorted { IsStrictlySortedBy nat_cmp (keys_of self.now.entries) }
     {
-        let (number, _) = self.places.iter().next()?;
-        Some(*number)
+        self.places.first()
     }
 
     /// The value with a number; None exactly if there is none.
     pub fn get(&self, number: u32) -> Option<&V>
         ensures { option_copied result ≡ lookup (is_at (nat_cmp number)) self.now.entries }
     {
-        let slot = *self.places.get(&number)?;
+        let slot = self.places.get(number)?;
         self.slots.get(slot)
     }
 
@@ -75,7 +74,7 @@ impl<V: Drop> Slots<V> {
         ensures value { option_copied_mut result
             ≡ lookup (is_at (nat_cmp number)) self.old.entries }
     {
-        let slot = *self.places.get(&number)?;
+        let slot = self.places.find(number)?;
         let Some(value) = self.slots.get_mut(slot) else {
             unreachable!();
         };
@@ -113,7 +112,7 @@ impl<V: Drop> Slots<V> {
         ensures entries { self.new.entries
             ≡ remove_entry (is_at (nat_cmp number)) self.old.entries }
     {
-        let slot = self.places.remove(&number)?;
+        let slot = self.places.remove(number)?;
         self.slots.try_remove(slot)
     }
 }

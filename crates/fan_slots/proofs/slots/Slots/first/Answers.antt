@@ -1,4 +1,4 @@
-use Rattle.std.proofs.Common.{◌∙◌, ℕ, List, Option, ap, sym, subst, option_map, slice_get}
+use Rattle.std.proofs.Common.{◌∙◌, ℕ, List, Option, sym, subst, option_map, slice_get}
 use Rattle.std.specs.List.Sorted.{IsStrictlySortedBy}
 use Rattle.std.specs.Ordering.{nat_cmp}
 use Rattle.fan_slots.proofs.Placing.{first-in_slots, keys_of-in_slots}
@@ -11,24 +11,11 @@ first_of places = option_map (λ place. place.0) (slice_get places 0)
 pub returns-clause-least : goal.returns-clause-least
 returns-clause-least g c =
     let inside = c.self.inside in
-    rw (← c.self.view_is) (sym (ap first_of (sym c.iter.ensures.rest ∙ c.in_ok-number.ensures.steps))
+    rw (← c.self.view_is) (c.first.ensures.least
     ∙ sym (first-in_slots inside.slots inside.places.entries c.self.invariant))
 
 pub returns-clause-sorted : goal.returns-clause-sorted
 returns-clause-sorted g c =
     let inside = c.self.inside in
     rw (← c.self.view_is) (subst (IsStrictlySortedBy nat_cmp)
-    (sym (keys_of-in_slots inside.slots inside.places.entries c.self.invariant)) c.iter.ensures.sorted)
-
-pub returns-in_err-number-clause-sorted : goal.returns-in_err-number-clause-sorted
-returns-in_err-number-clause-sorted g c =
-    let inside = c.self.inside in
-    rw (← c.self.view_is) (subst (IsStrictlySortedBy nat_cmp)
-    (sym (keys_of-in_slots inside.slots inside.places.entries c.self.invariant)) c.iter.ensures.sorted)
-
-pub returns-in_err-number-clause-least : goal.returns-in_err-number-clause-least
-returns-in_err-number-clause-least g c =
-    let inside = c.self.inside in
-    rw (c.from_residual.ensures, ← c.self.view_is)
-    (sym (ap first_of (sym c.iter.ensures.rest ∙ c.in_err-number.ensures.steps.0))
-    ∙ sym (first-in_slots inside.slots inside.places.entries c.self.invariant))
+    (sym (keys_of-in_slots inside.slots inside.places.entries c.self.invariant)) c.first.ensures.sorted)

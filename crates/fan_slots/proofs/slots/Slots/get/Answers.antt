@@ -15,5 +15,5 @@ pub returns : goal.returns
 returns g c =
     let inside = c.self.inside in
     rw (← c.self.view_is) (c.get-2.ensures
-    ∙ sym (some_in inside.slots (is_at (nat_cmp c.args.number)) c.in_ok-slot.field-0.now inside.places.entries
+    ∙ sym (some_in inside.slots (is_at (nat_cmp c.args.number)) c.in_ok-slot.slot inside.places.entries
     c.self.invariant (sym c.in_ok-slot.ensures.value)))

@@ -15,35 +15,36 @@ returns-in_err-slot g c =
     let no_slot : lookup test inside.places.entries ≡ None = sym c.in_err-slot.ensures.value in
     let none : lookup test (in_slots inside.slots inside.places.entries) ≡ None =
     none_in inside.slots test inside.places.entries c.self.invariant no_slot in
-    rw (c.from_residual.ensures, ← c.self.view_is) (refl, record { writes_back = tt; value = rw none refl })
+    rw (c.from_residual.ensures, c.find.ensures.same, ← c.self.view_is)
+    (refl, record { writes_back = tt; value = rw none refl })
 
 pub unreachable-requires : goal.unreachable-requires
 unreachable-requires g c =
     let inside = c.self.inside in
-    let found : lookup (is_at (nat_cmp c.args.number)) inside.places.entries ≡ Some c.in_ok-slot.field-0.now =
+    let found : lookup (is_at (nat_cmp c.args.number)) inside.places.entries ≡ Some c.in_ok-slot.slot =
     sym c.in_ok-slot.ensures.value in
-    let some : is_some (get inside.slots c.in_ok-slot.field-0.now) ≡ true =
-    held_at inside.slots (is_at (nat_cmp c.args.number)) c.in_ok-slot.field-0.now inside.places.entries
+    let some : is_some (get inside.slots c.in_ok-slot.slot) ≡ true =
+    held_at inside.slots (is_at (nat_cmp c.args.number)) c.in_ok-slot.slot inside.places.entries
     c.self.invariant found in
-    let none : get inside.slots c.in_ok-slot.field-0.now ≡ None = sym c.in_default.ensures.value in
+    let none : get inside.slots c.in_ok-slot.slot ≡ None = sym c.in_default.ensures.value in
     let never : false ≡ true = ap is_some (sym none) ∙ some in absurd cc
 
 pub invariant_of-self-lent : goal.invariant_of-self-lent
 invariant_of-self-lent g c = λ w.
     let inside = c.self.inside in
-    let slot = c.in_ok-slot.field-0.now in
+    let slot = c.in_ok-slot.slot in
     let found : lookup (is_at (nat_cmp c.args.number)) inside.places.entries ≡ Some slot =
     sym c.in_ok-slot.ensures.value in
     let some : is_some (get inside.slots slot) ≡ true =
     held_at inside.slots (is_at (nat_cmp c.args.number)) slot inside.places.entries c.self.invariant found in
     let updates = Updates-with_value inside.slots slot w (rw some refl) in
-    placed-set inside.slots (with_value inside.slots slot w) slot (is_at (nat_cmp c.args.number)) updates.others w
-    updates.changed inside.places.entries c.self.invariant found
+    rw c.find.ensures.same (placed-set inside.slots (with_value inside.slots slot w) slot (is_at (nat_cmp c.args.number))
+    updates.others w updates.changed inside.places.entries c.self.invariant found)
 
 pub returns : goal.returns
 returns g c =
     let inside = c.self.inside in
-    let slot = c.in_ok-slot.field-0.now in
+    let slot = c.in_ok-slot.slot in
     let test = is_at (nat_cmp c.args.number) in
     let found : lookup test inside.places.entries ≡ Some slot = sym c.in_ok-slot.ensures.value in
     let some : is_some (get inside.slots slot) ≡ true =
@@ -55,7 +56,7 @@ returns g c =
     let updates = Updates-with_value inside.slots slot w (rw some refl) in
     in_slots-set inside.slots (with_value inside.slots slot w) slot test updates.others
     w updates.changed inside.places.entries c.self.invariant found in
-    rw (← c.self.view_is) (
+    rw (c.find.ensures.same, ← c.self.view_is) (
       (λ i. inl (
         c.in-Some.value.ghost_name,
         λ w. record {
