@@ -1,100 +1,64 @@
 -- What a queue keeps beside its entries, when an entry comes, takes bits or goes.
-use Rattle.std.proofs.Common.{◌≡◌, ◌∙◌, ℕ, ◌+◌, ◌≤◌, Bool, true, false, not, cond, ◌==◌, ◌&&◌, ◌||◌, List, [], ◌∷◌, ◌++◌, Option, Some, None, get_or, refl, ap, sym, arith}
+use Rattle.std.proofs.Common.{◌≡◌, ◌≢◌, ◌∙◌, ℕ, ◌+◌, ◌<◌, ◌≤◌, Bool, true, false, cond, List, [], ◌∷◌, ◌++◌, Option, Some, None, length, get_or, nat_lt, refl, ap, sym, subst, arith}
 use Rattle.std.proofs.lemmas.Bool.Decides.{nat_tests}
-use Rattle.std.proofs.lemmas.List.Folds.{list_any-append, list_any_none}
-use Rattle.std.specs.BTreeMap.{is_at}
+use Rattle.std.proofs.lemmas.List.{get_or_default}
+use Rattle.std.proofs.lemmas.List.Elements.{All-push, All-tail}
 use Rattle.std.specs.Option.{ForSome, option_map}
 use Rattle.std.specs.Prelude.{count_by, find}
 use Rattle.fan_lists.specs.First.{change_first}
 use Rattle.fan_lists.proofs.Counts.{count_by-cons, none_from_count}
-use Rattle.fan_map.proofs.Keys.{is_eq-two}
+use Rattle.fan_lists.proofs.FirstLemmas.{All-change_first}
 use Rattle.fan_event.specs.declared.event.Event.{Event}
-use Rattle.fan_event.specs.Keys.{key_hash}
-use Rattle.fan_queue.specs.declared.buckets.BucketKey.{BucketKey}
 use Rattle.fan_queue.specs.declared.entry.Body.{Body}
 use Rattle.fan_queue.specs.declared.entry.Body.TheVariants.{Told, Lost}
 use Rattle.fan_queue.specs.declared.entry.Entry.{Entry}
-use Rattle.fan_queue.specs.Buckets.{BucketKeys, bucket_cmp, bucket_in, bucket_key, bucket_of, has_bucket, is_bucket, is_noted}
+use Rattle.fan_queue.specs.declared.keys.EntryKey.{EntryKey}
+use Rattle.fan_queue.specs.Keys.{key_of}
 use Rattle.fan_queue.specs.Kept.{IsKept, lost_number}
-use Rattle.fan_queue.specs.Queue.{body_is_lost, is_lost, merged, takes, with_more}
+use Rattle.fan_queue.specs.Queue.{body_is_lost, is_lost, merged, takes}
 use Rattle.fan_queue.specs.Queued.{AreNumbered, CanBeQueued}
-use Rattle.fan_queue.proofs.ChangeLemmas.{find-change_first, find-push, find-push_other, list_any-change_first}
+use Rattle.fan_queue.specs.Table.{AreKnown, is_known}
+use Rattle.fan_queue.specs.TableState.{TableState}
+use Rattle.fan_queue.proofs.ChangeLemmas.{find-change_first, find-push, find-push_other}
+use Rattle.fan_queue.proofs.KeyLemmas.{front_below, key-merged, key_number}
 use Rattle.fan_queue.proofs.QueueLemmas.{lost-merged, number-merged, number_at, queued-merge, queued-push, queued-rest}
 
--- two keys are the same if their hashes and their numbers are
-pub same_bucket : (a b : BucketKey) → is_at (bucket_cmp a) b ≡ (a.hash == b.hash && a.number == b.number)
-same_bucket a b = is_eq-two a.hash a.number b.hash b.number
+-- the key of an entry is found, if it has one
+abbrev pub IsFound : TableState → Entry → Type 0
+IsFound table entry = ForSome (key_of entry) (λ key. is_known key table ≡ true)
 
-pub same_bucket-refl : (a : BucketKey) → is_at (bucket_cmp a) a ≡ true
-same_bucket-refl a = same_bucket a a ∙ grind (arith, nat_tests)
-
--- the key of an entry has its number
-pub bucket_number : (key : BucketKey) (entry : Entry) → is_bucket key (bucket_of entry) ≡ true
-    → entry.number ≡ key.number
-bucket_number key entry here = by entry.body here
+-- the key of one entry more is found, and those of the entries before it still are
+pub found_more : (front : ℕ) (entries : List Entry) (index : ℕ) (e : Entry) (earlier later : TableState)
+    → AreNumbered (front + length entries) entries → index < length entries → e ≡ get_or entries index e
+    → ((k : ℕ) (d : Entry) → k < index → IsFound earlier (get_or entries k d))
+    → ((key : EntryKey) → front ≤ key.number → is_known key earlier ≡ true → is_known key later ≡ true)
+    → IsFound later e
+    → (k : ℕ) (d : Entry) → k < index + 1 → IsFound later (get_or entries k d)
+found_more front entries index e earlier later numbered within at found kept own k d below =
+    by (nat_lt k index) refl
   where
-    by : (body : Body) → is_bucket key (bucket_in entry.number body) ≡ true → entry.number ≡ key.number
-    by (Told event) here = told event.perm here
-      where
-        told : (perm : Bool) → is_bucket key (cond perm None (Some (bucket_key event entry.number))) ≡ true
-            → entry.number ≡ key.number
-        told true here = absurd cc
-        told false here =
-            let same = same_bucket key (bucket_key event entry.number) in
-            grind (arith, nat_tests, same, here)
-    by Lost here = absurd cc
+    by : (b : Bool) → nat_lt k index ≡ b → IsFound later (get_or entries k d)
+    by true before = λ key is.
+        let less : k < index = grind (arith, nat_tests, before) in
+        kept key (front_below front entries k d numbered (omega (arith, less, within)) key is)
+        (found k d less key is)
+    by false here =
+        let same : k ≡ index = grind (arith, nat_tests, here, below) in
+        let one : get_or entries k d ≡ e =
+        ap (λ i. get_or entries i d) same ∙ get_or_default entries index d e within ∙ sym at in
+        subst (IsFound later) (sym one) own
 
--- an entry with another number has another key
-other_bucket : (key : BucketKey) (entry : Entry) → (entry.number ≡ key.number → ⊥)
-    → is_bucket key (bucket_of entry) ≡ false
-other_bucket key entry other = by (is_bucket key (bucket_of entry)) refl
-  where
-    by : (b : Bool) → is_bucket key (bucket_of entry) ≡ b → b ≡ false
-    by true here = absurd (other (bucket_number key entry here))
-    by false there = refl
-
--- no entry has a key with a number from the next on
-absent : (next : ℕ) (entries : List Entry) (key : BucketKey) → AreNumbered next entries → next ≤ key.number
-    → has_bucket key entries ≡ false
-absent next entries key numbered above =
-    list_any_none (λ entry. is_bucket key (bucket_of entry)) entries (λ k d within.
-    other_bucket key (get_or entries k d) (λ same.
-    omega (arith, same, above, within, number_at next entries k d numbered within)))
-
--- further bits leave the key of an entry
-bucket-merged : (event : Event) (entry : Entry) → bucket_of (merged event entry) ≡ bucket_of entry
-unfolding merged key_hash
-bucket-merged event entry = by entry.body
-  where
-    by : (body : Body) → bucket_in entry.number (with_more event.bits body) ≡ bucket_in entry.number body
-    by (Told told) = refl
-    by Lost = refl
-
-module _ (entries : List Entry) (buckets : BucketKeys) (lost : Option ℕ) (next : ℕ)
-    (kept : IsKept entries buckets lost next) where
-  -- the key of the next entry isn't noted yet
-  pub next_absent : (entry : Entry) → entry.number ≡ next
-      → ForSome (bucket_of entry) (λ key. is_noted key buckets ≡ false)
-  next_absent entry is = λ key there.
-      kept.noted key
-      ∙ absent next entries key kept.queued.numbered
-      (omega (arith, is, bucket_number key entry (ap (is_bucket key) there ∙ same_bucket-refl key)))
-
+module _ (entries : List Entry) (table : TableState) (lost : Option ℕ) (next : ℕ)
+    (kept : IsKept entries table lost next) where
   -- an entry comes
-  pub kept-push : (entry : Entry) (later : BucketKeys) → entry.number ≡ next
-      → CanBeQueued entries entry.body
-      → ((key : BucketKey) → is_noted key later ≡ (is_bucket key (bucket_of entry) || is_noted key buckets))
+  pub kept-push : (entry : Entry) (later : TableState) → entry.number ≡ next
+      → CanBeQueued entries entry.body → AreKnown entries later → IsFound later entry
       → IsKept (entries ++ entry ∷ []) later (cond (is_lost entry) (Some entry.number) lost) (next + 1)
-  kept-push entry later is can noted =
+  kept-push entry later is can known found =
       record {
         queued = queued-push next entries entry kept.queued is can;
         lost_is = lost_is entry.body refl can;
-        noted = λ key. noted key
-            ∙ grind (
-              arith,
-              kept.noted key,
-              list_any-append (λ one. is_bucket key (bucket_of one)) entries (entry ∷ []),
-            );
+        known = All-push (IsFound later) entries entry known found;
       }
     where
       lost_is : (body : Body) → entry.body ≡ body → CanBeQueued entries body
@@ -113,30 +77,29 @@ module _ (entries : List Entry) (buckets : BucketKeys) (lost : Option ℕ) (next
 
   -- the first entry that takes an event has its bits too
   pub kept-merge : (event : Event)
-      → IsKept (change_first (takes event) (merged event) entries) buckets lost next
-  kept-merge event =
-      record {
-        queued = queued-merge next entries event kept.queued;
-        lost_is = kept.lost_is
-            ∙ sym (find-change_first (takes event) (merged event) is_lost (λ entry. entry.number)
-            (lost-merged event) (number-merged event) entries);
-        noted = λ key. kept.noted key
-            ∙ sym (list_any-change_first (takes event) (merged event)
-            (λ entry. is_bucket key (bucket_of entry))
-            (λ entry. ap (is_bucket key) (bucket-merged event entry)) entries);
-      }
+      → IsKept (change_first (takes event) (merged event) entries) table lost next
+  kept-merge event = record {
+    queued = queued-merge next entries event kept.queued;
+    lost_is = kept.lost_is
+        ∙ sym (find-change_first (takes event) (merged event) is_lost (λ entry. entry.number)
+        (lost-merged event) (number-merged event) entries);
+    known = All-change_first (IsFound table) (takes event) (merged event) entries
+        (λ entry found. λ key is. found key (sym (key-merged event entry) ∙ is)) kept.known;
+  }
 
 -- the entry at the front goes
-pub kept-rest : (entry : Entry) (rest : List Entry) (buckets later : BucketKeys) (lost : Option ℕ)
-    (next : ℕ) → IsKept (entry ∷ rest) buckets lost next
-    → ((key : BucketKey) → is_noted key later
-    ≡ (not (is_bucket key (bucket_of entry)) && is_noted key buckets))
+pub kept-rest : (entry : Entry) (rest : List Entry) (table later : TableState) (lost : Option ℕ)
+    (next : ℕ) → IsKept (entry ∷ rest) table lost next
+    → ((key : EntryKey) → key.number ≢ entry.number → is_known key table ≡ true
+    → is_known key later ≡ true)
     → IsKept rest later (cond (is_lost entry) None lost) next
-kept-rest entry rest buckets later lost next kept forgotten =
+kept-rest entry rest table later lost next kept others =
     record {
       queued = queued-rest next entry rest kept.queued;
       lost_is = lost_is (is_lost entry) refl;
-      noted = λ key. forgotten key ∙ noted key (is_bucket key (bucket_of entry)) refl;
+      known = λ k d within key is.
+          others key (behind k d within key is)
+          (All-tail (IsFound table) entry rest kept.known k d within key is);
     }
   where
     lost_is : (b : Bool) → is_lost entry ≡ b → cond b None lost ≡ lost_number rest
@@ -148,21 +111,14 @@ kept-rest entry rest buckets later lost next kept forgotten =
     lost_is false there =
         let is = kept.lost_is in grind (arith, there, is)
 
-    others : (key : BucketKey) → is_bucket key (bucket_of entry) ≡ true
-        → has_bucket key rest ≡ false
-    others key here =
-        list_any_none (λ one. is_bucket key (bucket_of one)) rest (λ k d within.
-        other_bucket key (get_or rest k d) (λ same.
+    behind : (k : ℕ) (d : Entry) → k < length rest → (key : EntryKey)
+        → key_of (get_or rest k d) ≡ Some key → key.number ≢ entry.number
+    behind k d within key is = λ same.
         omega (
           arith,
           same,
           within,
-          bucket_number key entry here,
+          key_number (get_or rest k d) key is,
           kept.queued.numbered.0,
           number_at next rest k d kept.queued.numbered.1 within,
-        )))
-
-    noted : (key : BucketKey) (b : Bool) → is_bucket key (bucket_of entry) ≡ b
-        → (not b && is_noted key buckets) ≡ has_bucket key rest
-    noted key true here = sym (others key here)
-    noted key false there = kept.noted key ∙ rw there refl
+        )

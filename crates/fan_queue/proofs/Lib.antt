@@ -1,4 +1,6 @@
 pub mod QueueLemmas
 mod ChangeLemmas
+mod CellLemmas
+mod KeyLemmas
 mod KeptLemmas
 mod TakerLemmas

@@ -1,5 +1,8 @@
 pub mod QueueState
 pub mod Queue
 pub mod Queued
-pub mod Buckets
+pub mod Keys
+pub mod Cells
+pub mod TableState
+pub mod Table
 pub mod Kept

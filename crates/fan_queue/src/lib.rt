@@ -11,10 +11,12 @@
 //! ```
 #![tactic(auto)]
 
-mod buckets;
+mod cells;
 mod entry;
+mod keys;
 pub mod laws;
 mod queue;
+mod table;
 mod taker;
 #[cfg(test)]
 mod tests;

@@ -1,17 +1,17 @@
 // The queue itself.
 ghost use Rattle.std.specs.Prelude.{◌≡◌, ◌≢◌, ℕ, ◌<◌, ◌≤◌, ◌^◌, ◌↔◌, IsTrue, true, [], None, Some, Ok, IfNone, IfOk, IfSome, OnErr, OnOk, find, if◌then◌else◌, length, position, slice_get};
 ghost use Rattle.std.specs.Option.{option_copied, option_map};
+ghost use Rattle.std.specs.VecDeque.{deque_capacity, deque_len};
 ghost use Rattle.fan_lists.specs.First.{change_first};
 ghost use Rattle.fan_queue.specs.QueueState.{new_queue};
 ghost use Rattle.fan_queue.specs.Queue.{is_full, is_lost, merged, put, put_event, put_lost, queued, taken, takes};
 ghost use Rattle.fan_queue.specs.Queued.{CanBeQueued, IsQueue};
 
-use super::buckets::{BucketKey, bucket_of, forget, note};
 use super::entry::{Body, Entry, Put};
+use super::table::{Table, front_number};
 use super::taker::taker;
 use fan_event::Event;
 use fan_io::NoMemory;
-use fan_map::Map;
 use std::alloc::Global;
 use std::collections::VecDeque;
 use std::marker::Model;
@@ -26,8 +26,8 @@ pub struct Queue {
     limit: Option<u32>,
     // The entries, by their numbers: each has the number after that of the one before it.
     entries: VecDeque<Entry>,
-    // The key of each entry that may take bits: those with one hash are a bucket.
-    buckets: Map<BucketKey, ()>,
+    // The keys of the entries that may take bits.
+    table: Table,
     // The number of the lost entry, if it is queued.
     lost: Option<u64>,
     // The number of the next entry, from 1.
@@ -46,7 +46,7 @@ impl Model for Queue {
       next_entry = q.next_entry;
     } };
 
-    ghost invariant = { λ q. IsKept q.entries.items q.buckets.entries q.lost q.next_entry };
+    ghost invariant = { λ q. IsKept q.entries.items q.table q.lost q.next_entry };
 }
 
 impl Queue {
@@ -60,7 +60,7 @@ impl Queue {
             alloc,
             limit,
             entries: VecDeque::new(alloc),
-            buckets: Map::new(alloc),
+            table: Table::new(alloc),
             lost: None,
             next_entry: 1,
         }
@@ -110,7 +110,7 @@ impl Queue {
     {
         let entry = self.entries.pop_front()?;
         self.lost = lost_without(self.lost, &entry);
-        forget(&mut self.buckets, bucket_of(&entry));
+        self.table.forget(&entry);
         Some(entry)
     }
 
@@ -119,7 +119,7 @@ impl Queue {
         ensures { self.new ≡ record self.old { entries = [] } }
     {
         self.entries = VecDeque::new(self.alloc);
-        self.buckets = Map::new(self.alloc);
+        self.table = Table::new(self.alloc);
         self.lost = None;
     }
 
@@ -177,7 +177,8 @@ impl Queue {
         ensures none { IfNone result (find (takes event.now) self.old.entries ≡ None) }
         ensures same { IfNone result (self.new ≡ self.old) }
     {
-        let index = taker(&self.entries, &self.buckets, self.next_entry, event)?;
+        let front = front_number(&self.entries, self.next_entry);
+        let index = taker(&self.entries, &self.table, front, event)?;
         Some(merge_at(&mut self.entries, index, event))
     }
 
@@ -190,16 +191,28 @@ impl Queue {
         ensures ok { OnOk result (self.new ≡ queued self.old body) }
         ensures err { OnErr result (self.new ≡ self.old) }
     {
-        self.entries.reserve(1)?;
-        self.buckets.reserve()?;
+        reserve_for(&mut self.entries, &body)?;
         let number = self.next_entry;
         let entry = Entry { number, body };
+        self.table.note_last(self.alloc, &self.entries, &entry)?;
         self.lost = lost_with(self.lost, &entry);
-        note(&mut self.buckets, bucket_of(&entry));
         self.entries.push_back_reserved(entry);
         self.next_entry += 1;
         Ok(number)
     }
+}
+
+// Makes room for one entry more. The lost entry comes to a full queue, of which it makes no larger one
+// than it needs.
+fn reserve_for(entries: &mut VecDeque<Entry>, body: &Body) -> Result<(), NoMemory>
+    ensures items { entries.new.items ≡ entries.old.items }
+    ensures room { OnOk result (deque_len entries.new < deque_capacity entries.new) }
+{
+    match body {
+        Body::Told(_) => entries.reserve(1)?,
+        Body::Lost => entries.reserve_exact(1)?,
+    }
+    Ok(())
 }
 
 // The first entry that takes the bits of an event takes them. Its number.

@@ -1,8 +1,9 @@
 // A queue of each limit, played through one list of puts and takes over twelve keys.
 ghost use Rattle.fan_event.specs.Names.{IsName};
 
+use super::cells::{group_index, tag_of};
 use super::*;
-use fan_event::{Event, Name, Target};
+use fan_event::{Event, Name, Target, key_hash};
 use fan_io::NoMemory;
 use std::alloc::Global;
 use std::fmt::Write;
@@ -81,6 +82,36 @@ ljbeaeej--aeCk- = Q59 Q60 M57 M56 M55 M56 M56 M60 T55.20 T56.11 Q61 Q62 Q63 Q64 
 -g--A--f-D-kb-b = T63.4 Q71 T64.10 T65.20 Q72 T66.8 T67.4 Q73 T68.3 Q74 T69.4 Q75 Q76 T70.8 M76
 ";
 
+// What a queue answers to 36 events whose keys all belong to one group of cells, of which most are spilled.
+// Each is put twice, the first half of them is taken, each is put again, and then all are taken.
+const CROWDED: &str = "\
+Q1 Q2 Q3 Q4 Q5 Q6 Q7 Q8 Q9 Q10 Q11 Q12 Q13 Q14 Q15 Q16 Q17 Q18 \
+Q19 Q20 Q21 Q22 Q23 Q24 Q25 Q26 Q27 Q28 Q29 Q30 Q31 Q32 Q33 Q34 Q35 Q36 \
+M1 M2 M3 M4 M5 M6 M7 M8 M9 M10 M11 M12 M13 M14 M15 M16 M17 M18 \
+M19 M20 M21 M22 M23 M24 M25 M26 M27 M28 M29 M30 M31 M32 M33 M34 M35 M36 \
+T1.3 T2.3 T3.3 T4.3 T5.3 T6.3 T7.3 T8.3 T9.3 \
+T10.3 T11.3 T12.3 T13.3 T14.3 T15.3 T16.3 T17.3 T18.3 \
+Q37 Q38 Q39 Q40 Q41 Q42 Q43 Q44 Q45 Q46 Q47 Q48 Q49 Q50 Q51 Q52 Q53 Q54 \
+M19 M20 M21 M22 M23 M24 M25 M26 M27 M28 M29 M30 M31 M32 M33 M34 M35 M36 \
+T19.7 T20.7 T21.7 T22.7 T23.7 T24.7 T25.7 T26.7 T27.7 \
+T28.7 T29.7 T30.7 T31.7 T32.7 T33.7 T34.7 T35.7 T36.7 \
+T37.4 T38.4 T39.4 T40.4 T41.4 T42.4 T43.4 T44.4 T45.4 \
+T46.4 T47.4 T48.4 T49.4 T50.4 T51.4 T52.4 T53.4 T54.4 . ";
+
+#[test]
+fn events_of_one_group_of_cells_are_found(rt: HostRuntime) -> Result<(), Fail> {
+    let inodes = crowd(rt.alloc())?;
+    let mut queue = Queue::new(rt.alloc(), None);
+    let mut out = String::new(rt.alloc());
+    put_each(&mut queue, &inodes, 1, &mut out)?;
+    put_each(&mut queue, &inodes, 2, &mut out)?;
+    take_some(&mut queue, 18, &mut out)?;
+    put_each(&mut queue, &inodes, 4, &mut out)?;
+    take_some(&mut queue, 37, &mut out)?;
+    assert_eq!(rt; out.as_str(), CROWDED);
+    Ok(())
+}
+
 #[test]
 fn puts_and_takes_answer_as_a_plain_search_does(rt: HostRuntime) -> Result<(), Fail> {
     for (limit, history) in [(1, ONE), (2, TWO), (3, THREE), (16_384, MANY)] {
@@ -127,6 +158,52 @@ fn play(queue: &mut Queue, calls: &str, alloc: Global) -> Result<String, NoMemor
         }
     }
     Ok(out)
+}
+
+// The first 36 inodes whose events belong to the first of 64 groups, and so to the first of fewer.
+fn crowd(alloc: Global) -> Result<Vec<u32>, NoMemory> {
+    let mut inodes = Vec::new(alloc);
+    for inode in 1..4_000 {
+        let tag = tag_of(key_hash(&opened(inode, 0)));
+        if inodes.len() < 36 && group_index(tag, 64) == 0 {
+            inodes.push(inode)?;
+        }
+    }
+    Ok(inodes)
+}
+
+// An event of an inode.
+fn opened(inode: u32, bits: u32) -> Event {
+    Event {
+        bits,
+        ondir: false,
+        who: 41,
+        perm: false,
+        target: Target::Fd { mount: 3, inode },
+    }
+}
+
+fn put_each(
+    queue: &mut Queue,
+    inodes: &[u32],
+    bits: u32,
+    out: &mut String,
+) -> Result<(), NoMemory> {
+    for inode in inodes {
+        if queue.next_entry() < 1_000 {
+            show_put(queue.put(opened(*inode, bits))?, out)?;
+            out.push(' ')?;
+        }
+    }
+    Ok(())
+}
+
+fn take_some(queue: &mut Queue, count: u32, out: &mut String) -> Result<(), NoMemory> {
+    for _ in 0..count {
+        show_taken(queue.take(), out)?;
+        out.push(' ')?;
+    }
+    Ok(())
 }
 
 // An event with the key of a letter.

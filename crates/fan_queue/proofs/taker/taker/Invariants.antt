@@ -1,5 +1,0 @@
-use Rattle.fan_queue.proofs.TakerLemmas.{IsWalk}
-use Rattle.fan_queue.proofs.taker.taker.Given as goal
-
-abbrev pub invariant-loop-key : goal.invariant-loop-key
-invariant-loop-key l = IsWalk l.entries.items l.event l.key-iterator
