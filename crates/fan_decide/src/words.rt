@@ -1,7 +1,8 @@
 // The events of a happening that marks concern and ignore, as words.
-ghost use Rattle.std.specs.Prelude.{◌≡◌, ℕ, ◌^◌};
+ghost use Rattle.std.specs.Prelude.{◌≡◌, ℕ, ◌^◌, ◌&&◌, ◌||◌, not};
 ghost use Rattle.std.specs.List.{list_any};
 ghost use Rattle.fan_bits.specs.Interest.{is_on_place, reaches, concerns, ignores, watches_children};
+ghost use Rattle.fan_bits.specs.MarkWords.{ondir};
 ghost use Rattle.fan_bits.specs.Places.{is_parent};
 ghost use Rattle.fan_bits.specs.Words.{occurs};
 ghost use Rattle.fan_decide.specs.Words.{HasJust, answer_concerns, answer_ignores, wanted_by};
@@ -16,51 +17,60 @@ pub(crate) fn wanted_events(answers: &[Option<Mark>], group: u32, happening: &Ha
     let mut concerned = 0;
     let mut ignored = 0;
     for answer in answers {
-        concerned |= concerned_by(answer, group, happening);
-        ignored |= ignored_by(answer, group, happening);
+        let words = words_by(answer, group, happening);
+        concerned |= words.concerned;
+        ignored |= words.ignored;
     }
     happening.bits & concerned & !ignored
 }
 
-// The events that the mark of an answer asks for; none if it is another group's.
+// Some events that are asked for, and some that are ignored.
+#[derive(Clone, Copy, Debug)]
+struct Words {
+    concerned: u32,
+    ignored: u32,
+}
+
+// The events that the mark of an answer asks for and ignores; none if it is another group's.
 #[tactic(auto, using(crate::proofs::WordLemmas::mark_events))]
-fn concerned_by(answer: &Option<Mark>, group: u32, happening: &Happening) -> u32
-    ensures { HasJust result (λ event. answer_concerns group happening.now event answer.now) }
+fn words_by(answer: &Option<Mark>, group: u32, happening: &Happening) -> Words
+    ensures concerned { HasJust result.concerned
+        (λ event. answer_concerns group happening.now event answer.now) }
+    ensures ignored { HasJust result.ignored
+        (λ event. answer_ignores group happening.now event answer.now) }
 {
     match answer {
-        Some(mark) if mark.group == group => concerned(mark, happening),
-        _ => 0,
+        Some(mark) if mark.group == group => words_of(mark, happening),
+        _ => Words {
+            concerned: 0,
+            ignored: 0,
+        },
     }
 }
 
-// The events that the mark of an answer ignores; none if it is another group's.
+// The events of a happening that a mark asks for and ignores.
 #[tactic(auto, using(crate::proofs::WordLemmas::mark_events))]
-fn ignored_by(answer: &Option<Mark>, group: u32, happening: &Happening) -> u32
-    ensures { HasJust result (λ event. answer_ignores group happening.now event answer.now) }
+fn words_of(mark: &Mark, happening: &Happening) -> Words
+    ensures concerned { HasJust result.concerned (concerns mark.now happening.now) }
+    ensures ignored { HasJust result.ignored (ignores mark.now happening.now) }
 {
-    match answer {
-        Some(mark) if mark.group == group => ignored(mark, happening),
-        _ => 0,
+    let reached = reached(mark, &happening.place);
+    Words {
+        concerned: asked(mark, happening.ondir) & reached,
+        ignored: mark.ignored & reached,
     }
 }
 
-// The events of a happening that a mark asks for. On a directory it needs FAN_ONDIR.
+// The events that a mark asks for. On a directory it needs FAN_ONDIR.
 #[tactic(auto, using(crate::proofs::WordLemmas::mark_events))]
-fn concerned(mark: &Mark, happening: &Happening) -> u32
-    ensures { HasJust result (concerns mark.now happening.now) }
+fn asked(mark: &Mark, on_directory: bool) -> u32
+    ensures { HasJust result (λ event. occurs mark.now.mask event
+        && (not on_directory || occurs mark.now.mask ondir)) }
 {
-    if happening.ondir && !has(mark.mask, FAN_ONDIR) {
+    if on_directory && !has(mark.mask, FAN_ONDIR) {
         return 0;
     }
-    mark.mask & reached(mark, &happening.place)
-}
-
-// The events of a happening that a mark ignores, on directories too.
-#[tactic(auto, using(crate::proofs::WordLemmas::mark_events))]
-fn ignored(mark: &Mark, happening: &Happening) -> u32
-    ensures { HasJust result (ignores mark.now happening.now) }
-{
-    mark.ignored & reached(mark, &happening.place)
+    mark.mask
 }
 
 // The events for which a mark reaches a place.

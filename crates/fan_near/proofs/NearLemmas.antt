@@ -1,16 +1,11 @@
--- The marks near some spots: how they are gathered object by object, found again, and emptied by a write; and
--- that they tell what all marks tell there.
-use Rattle.std.proofs.Common.{◌≡◌, ◌∙◌, ℕ, ◌+◌, ◌<◌, ◌≤◌, Bool, true, false, List, [], ◌∷◌, ◌++◌, Option, Some, None, map, length, refl, sym, ap, arith, eqb, eqb-true, get_or, zero, suc, take, drop}
-use Rattle.std.specs.Prelude.{All, filter, find, nat_le, nat_lt, not, slice_get, is_some, IfSome, ◌&&◌, ◌||◌, ◌==◌}
-use Rattle.std.specs.Option.{option_copied}
-use Rattle.std.proofs.lemmas.Option.{slice_get_past}
-use denote.Ref.{Bor}
-use Rattle.std.specs.List.Sorted.{IsPartitionPoint, IsPartitionedBy}
+-- The marks near some spots: how they are gathered object by object, and emptied by a write; and that they tell
+-- what all marks tell there.
+use Rattle.std.proofs.Common.{◌≡◌, ◌∙◌, ℕ, ◌+◌, ◌<◌, ◌≤◌, Bool, true, false, List, [], ◌∷◌, ◌++◌, Option, Some, None, map, length, refl, sym, ap, arith, eqb-true, get_or, take, drop}
+use Rattle.std.specs.Prelude.{All, filter, nat_le, ◌&&◌, ◌||◌, ◌==◌}
 use Rattle.std.proofs.lemmas.Bool.Decides.{nat_tests}
 use Rattle.std.proofs.lemmas.List.{append-nil, drop_all, take_all}
 use Rattle.std.proofs.Math.Seq.{take-append_seam}
-use Rattle.std.proofs.lemmas.List.Folds.{find_at, list_any_at, list_any_more}
-use Rattle.std.proofs.lemmas.List.Sums.{position_or_len_is}
+use Rattle.std.proofs.lemmas.List.Folds.{list_any_at, list_any_more}
 use Rattle.std.proofs.lemmas.List.Elements.{All-weaker}
 use Rattle.fan_access.specs.declared.spot.Spot.{Spot}
 use Rattle.fan_access.specs.Kept.{TellsSame}
@@ -18,18 +13,18 @@ use Rattle.fan_bits.specs.declared.change.Change.TheVariants.{Clear}
 use Rattle.fan_bits.specs.declared.mark.Mark.{Mark}
 use Rattle.fan_bits.specs.declared.place.Place.{Place}
 use Rattle.fan_bits.specs.Interest.{interests, near}
-use Rattle.fan_bits.specs.Marks.{IsMark, IsMarkList, Rises, changed, cleared, is_before, is_behind, next_on, on, order_of, stands}
+use Rattle.fan_bits.specs.Marks.{IsMark, IsMarkList, Rises, changed, cleared, is_before, on, order_of, stands}
 use Rattle.fan_bits.proofs.InterestLaws.{interests_near}
 use Rattle.fan_bits.proofs.MarkLists.{IsMarkList-filter, cleared_keeps}
 use Rattle.fan_lists.proofs.Filters.{filter-filter, filter_agree_on, filter_none}
-use Rattle.fan_near.specs.Near.{IsLeast, if_on, is_near, is_near_any, near_any, up_to}
+use Rattle.fan_near.specs.Near.{IsLeast, is_near, is_near_any, near_any, up_to}
 
 -- one mark stands before another
-abbrev IsBefore : Mark → Mark → Type 0
+abbrev pub IsBefore : Mark → Mark → Type 0
 IsBefore mark other = is_before other.object (order_of other) mark ≡ true
 
 -- what stands behind a mark is on its object or on a greater one
-object_behind : (mark other : Mark) → IsBefore mark other → mark.object ≤ other.object
+pub object_behind : (mark other : Mark) → IsBefore mark other → mark.object ≤ other.object
 object_behind mark other before = grind (arith, nat_tests)
 
 -- ---- gathered object by object
@@ -87,14 +82,7 @@ up_to_next test last object marks rises least =
     (λ mark other here before. grind (arith, nat_tests, here, least.1, object_behind mark other before))
     marks rises
 
--- no mark is on object 0
-pub none_on_0 : (marks : List Mark) → All IsMark marks → on 0 marks ≡ []
-none_on_0 marks each =
-    filter_none (λ mark. mark.object == 0) marks
-    (All-weaker IsMark (λ mark. (mark.object == 0) ≡ false)
-    (λ mark is. grind (arith, nat_tests, is.object.0)) marks each)
-
--- and none on an object up to it
+-- no mark is on an object up to 0
 pub up_to_0 : (test : ℕ → Bool) (marks : List Mark) → All IsMark marks → up_to test 0 marks ≡ []
 up_to_0 test marks each =
     filter_none (λ mark. test mark.object && nat_le mark.object 0) marks
@@ -130,100 +118,6 @@ pub near_more : (spots : List Spot) (i : ℕ) (spot : Spot) → i < length spots
 near_more spots i spot within here object =
     list_any_more (λ other. is_near other.place object) spots i spot within
     ∙ ap (λ (other : Spot). is_near_any (take i spots) object || is_near other.place object) (sym here)
-
--- ---- found again
-
--- what stands behind a mark that comes after an order comes after it too
-behind_on : (object after : ℕ) (mark other : Mark) → IsBefore mark other → is_behind object after mark ≡ true
-    → is_behind object after other ≡ true
-behind_on object after mark other before behind = grind (arith, nat_tests)
-
--- of two marks of a list the first stands before the other
-rises_at : (marks : List Mark) → Rises marks → (i j : ℕ) (d : Mark) → i < j → j < length marks
-    → IsBefore (get_or marks i d) (get_or marks j d)
-rises_at [] rises i j d less within = absurd (omega (arith, within))
-rises_at (mark ∷ more) rises zero zero d less within = absurd (omega (arith, less))
-rises_at (mark ∷ more) rises (suc i) zero d less within = absurd (omega (arith, less))
-rises_at (mark ∷ more) rises zero (suc j) d less within = rises.0 j d (omega (arith, within))
-rises_at (mark ∷ more) rises (suc i) (suc j) d less within =
-    rises_at more rises.1 i j d (omega (arith, less)) (omega (arith, within))
-
--- so the marks up to an order stand before those after it
-pub behind_partitions : (object after : ℕ) (marks : List Mark) → Rises marks
-    → IsPartitionedBy (λ mark. not (is_behind object after mark)) marks
-behind_partitions object after marks rises i j d upto within is =
-    by (is_behind object after (get_or marks i d)) refl
-  where
-    by : (b : Bool) → is_behind object after (get_or marks i d) ≡ b → not b ≡ true
-    by false here = refl
-    by true here = before (eqb i j) refl
-      where
-        before : (b : Bool) → eqb i j ≡ b → false ≡ true
-        before true same =
-            let one : i ≡ j = eqb-true i j same in
-            sym (ap not (ap (λ (k : ℕ). is_behind object after (get_or marks k d)) (sym one) ∙ here)) ∙ is
-        before false other =
-            let less : i < j = grind (arith, nat_tests, upto, other) in
-            sym (ap not (behind_on object after (get_or marks i d) (get_or marks j d)
-            (rises_at marks rises i j d less within) here)) ∙ is
-
--- and the first of these stands where they part
-pub first_at : (p : Mark → Bool) (marks : List Mark) (first : ℕ) → first ≤ length marks
-    → IsPartitionPoint (λ mark. not (p mark) ≡ true) (λ mark. not (p mark) ≡ false) marks first
-    → find p marks ≡ slice_get marks first
-first_at p [] first within parts = refl
-first_at p (mark ∷ more) first within parts =
-    find_at p (mark ∷ more)
-    ∙ ap (slice_get (mark ∷ more))
-    (position_or_len_is p (mark ∷ more) first mark within
-    (λ k less. not_true (p (get_or (mark ∷ more) k mark)) (parts.0 k mark (omega arith) less))
-    (λ inside. not_false (p (get_or (mark ∷ more) first mark)) (parts.1 first mark (omega arith) inside)))
-  where
-    not_true : (b : Bool) → not b ≡ true → b ≡ false
-    not_true true is = sym is
-    not_true false is = refl
-
-    not_false : (b : Bool) → not b ≡ false → b ≡ true
-    not_false true is = refl
-    not_false false is = sym is
-
--- an element that is there is found by its index
-some_at : {X : Type 0} (xs : List X) (i : ℕ) (d : X) → i < length xs → slice_get xs i ≡ Some (get_or xs i d)
-some_at [] i d within = absurd (omega (arith, within))
-some_at (x ∷ xs) zero d within = refl
-some_at (x ∷ xs) (suc i) d within = some_at xs i d (omega (arith, within))
-
--- what `get` lends is what is at the index
-pub lent_at : {X : Type 0} (xs : List X) (i : ℕ) (lent : Option (Bor X)) → is_some lent ≡ nat_lt i (length xs)
-    → IfSome lent (λ x. x.now ≡ get_or xs i x.now) → option_copied lent ≡ slice_get xs i
-lent_at xs i None there is =
-    let past : length xs ≤ i = grind (arith, nat_tests, there) in sym (slice_get_past xs i past)
-lent_at xs i (Some x) there is =
-    let within : i < length xs = grind (arith, nat_tests, there) in
-    ap Some is ∙ sym (some_at xs i x.now within)
-
--- the next mark on an object is the first behind the order there, if that is on the object
-pub next_first : (object after : ℕ) (marks : List Mark) → Rises marks
-    → next_on marks object after ≡ if_on object (find (is_behind object after) marks)
-next_first object after [] rises = refl
-next_first object after (mark ∷ more) rises =
-    by (mark.object == object) (nat_lt after (order_of mark)) (nat_lt object mark.object) refl refl refl
-    (next_first object after more rises.1)
-  where
-    by : (same later above : Bool) → (mark.object == object) ≡ same → nat_lt after (order_of mark) ≡ later
-        → nat_lt object mark.object ≡ above
-        → next_on more object after ≡ if_on object (find (is_behind object after) more)
-        → next_on (mark ∷ more) object after ≡ if_on object (find (is_behind object after) (mark ∷ more))
-    by true true above i j k ih = grind (arith, i, j, k, ih)
-    by true false true i j k ih = absurd (grind (arith, nat_tests, i, k))
-    by true false false i j k ih = grind (arith, i, j, k, ih)
-    by false later true i j k ih =
-        let none : on object more ≡ [] =
-        filter_none (λ other. other.object == object) more
-        (All-weaker (IsBefore mark) (λ other. (other.object == object) ≡ false)
-        (λ other before. grind (arith, nat_tests, k, object_behind mark other before)) more rises.0) in
-        grind (arith, i, j, k, none)
-    by false later false i j k ih = grind (arith, i, j, k, ih)
 
 -- ---- emptied by a write
 

@@ -1,10 +1,12 @@
--- The marks near the spots of an access, object by object. Of this module public clauses cite `near_any` alone.
-use Rattle.std.specs.Prelude.{◌≡◌, ℕ, ◌<◌, ◌≤◌, ◌==◌, ◌||◌, ◌&&◌, Bool, true, List, Option, Some, None, filter, nat_le, if◌then◌else◌}
+-- The marks near the spots of an access, object by object, and the first of them after an order. Of this module
+-- public clauses cite `near_any` alone.
+use Rattle.std.specs.Prelude.{◌≡◌, ℕ, ◌<◌, ◌≤◌, ◌==◌, ◌||◌, ◌&&◌, Bool, true, List, Option, Some, None, filter, nat_le, slice_get, if◌then◌else◌}
 use Rattle.std.specs.List.{list_any}
 use Rattle.fan_access.specs.declared.spot.Spot.{Spot}
 use Rattle.fan_bits.specs.declared.mark.Mark.{Mark}
 use Rattle.fan_bits.specs.declared.place.Place.{Place}
 use Rattle.fan_bits.specs.Interest.{near}
+use Rattle.fan_bits.specs.Marks.{is_behind}
 use Rattle.fan_bits.specs.Places.{is_parent}
 
 -- an object is that of a place, or its parent: a mark on it is near the place
@@ -34,3 +36,12 @@ IsLeast test last (Some object) =
 abbrev pub if_on : ℕ → Option Mark → Option Mark
 if_on object None = None
 if_on object (Some mark) = if mark.object == object then Some mark else None
+
+-- a mark comes after an order on an object, or there is none: the end of the marks comes after each order
+abbrev pub is_behind_or_end : ℕ → ℕ → Option Mark → Bool
+is_behind_or_end object after None = true
+is_behind_or_end object after (Some mark) = is_behind object after mark
+
+-- what is at an index of some marks comes after an order on an object
+abbrev pub is_behind_at : ℕ → ℕ → List Mark → ℕ → Bool
+is_behind_at object after marks at = is_behind_or_end object after (slice_get marks at)

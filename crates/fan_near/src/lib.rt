@@ -15,8 +15,10 @@
 //! ```
 #![tactic(auto)]
 
+mod hints;
 mod laws;
 mod near;
+mod search;
 
 pub use laws::{marks_near_tell_the_same, writes_leave_what_is_near};
 pub use near::NearMarks;

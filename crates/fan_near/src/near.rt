@@ -1,12 +1,14 @@
 // The marks near the spots of an access, as they stood at its begin.
-ghost use Rattle.std.specs.Prelude.{◌≡◌, ◌≤◌, ◌^◌, ◌==◌, ◌||◌, ℕ, Bool, [], All, IfOk, OnErr, filter, find, map};
+ghost use Rattle.std.specs.Prelude.{◌≡◌, ◌≤◌, ◌^◌, ◌==◌, ◌||◌, ℕ, Bool, [], All, IfOk, OnErr, filter, map, slice_get};
 ghost use Rattle.fan_access.specs.Access.{AccessState, access_step};
 ghost use Rattle.fan_access.specs.Kept.{IsAccess, IsStepped};
 ghost use Rattle.fan_bits.specs.declared.change.Change.TheVariants.{Clear};
-ghost use Rattle.fan_bits.specs.Marks.{IsMarkList, Rises, changed, cleared, is_behind, next_on, stands};
+ghost use Rattle.fan_bits.specs.Marks.{IsMarkList, changed, cleared, stands};
 ghost use Rattle.fan_listener.specs.Groups.{IsCalledOnce};
 ghost use Rattle.fan_near.specs.Near.{IsLeast, if_on, is_near, is_near_any, near_any};
 
+use super::hints::Hints;
+use super::search::first_behind;
 use fan_access::{Access, Spot, StepOutcome};
 use fan_bits::{Connectors, Mark, Order, Place};
 use fan_groups::Groups;
@@ -19,6 +21,7 @@ use std::marker::Model;
 #[derive(Drop)]
 pub struct NearMarks {
     marks: Vec<Mark>,
+    hints: Hints,
 }
 
 impl Model for NearMarks {
@@ -40,6 +43,7 @@ impl NearMarks {
     {
         NearMarks {
             marks: Vec::new(alloc),
+            hints: Hints::new(),
         }
     }
 
@@ -51,15 +55,18 @@ impl NearMarks {
         ensures near { IfOk result (λ marks. marks ≡ filter (near_any spots.now) book.now.marks) }
         ensures whole { IfOk result (λ _. IsMarkList book.now.marks) }
     {
+        // No group has number 0, but the call shows that a book holds a list of marks.
+        let _ = book.count(0);
         let mut marks = Vec::new(alloc);
         let mut last = 0;
-        // None is on object 0, but the call shows that the book holds a list of marks.
-        book.marks_on(last, &mut marks)?;
         while let Some(object) = next_object(spots, last) {
             book.marks_on(object, &mut marks)?;
             last = object;
         }
-        Ok(NearMarks { marks })
+        Ok(NearMarks {
+            marks,
+            hints: Hints::new(),
+        })
     }
 
     /// Empties the ignored sets on a file that is written to, as the book does. Allocates nothing.
@@ -67,6 +74,7 @@ impl NearMarks {
         ensures cleared { self.new ≡ changed self.old (Clear object) }
     {
         clear_all(&mut self.marks, object);
+        self.hints = Hints::new();
     }
 
     /// Lets an access do its next single step by these marks. The step itself allocates nothing; `NoMemory`
@@ -97,34 +105,21 @@ impl Connectors for NearMarks {
     ghost is_list = { λ it marks shown. shown.1 };
 
     fn next(&mut self, object: u32, after: Order) -> Option<Mark> {
-        on_object(first_behind(&self.marks, object, after), object)
+        let marks: &[Mark] = &self.marks;
+        let first = first_behind(marks, self.hints.hint(object), object, after);
+        self.hints.keep(object, first);
+        on_object(marks, first, object)
     }
 }
 
-// The first mark that comes after an order on an object.
-fn first_behind(marks: &[Mark], object: u32, after: Order) -> Option<Mark>
-    requires { Rises marks.now }
-    ensures { result ≡ find (is_behind object after.0) marks.now }
+// The mark at an index, if there is one and it is on an object.
+fn on_object(marks: &[Mark], at: usize, object: u32) -> Option<Mark>
+    ensures { result ≡ if_on object (slice_get marks.now at) }
 {
-    let first = marks.partition_point(|mark| !is_behind(mark, object, after));
-    marks.get(first).copied()
-}
-
-// A mark, if there is one and it is on an object.
-fn on_object(found: Option<Mark>, object: u32) -> Option<Mark>
-    ensures { result ≡ if_on object found }
-{
-    match found {
-        Some(mark) if mark.object == object => Some(mark),
+    match marks.get(at) {
+        Some(mark) if mark.object == object => Some(*mark),
         _ => None,
     }
-}
-
-// Whether a mark comes after an order on an object.
-fn is_behind(mark: &Mark, object: u32, after: Order) -> bool
-    ensures { result ≡ is_behind object after.0 mark.now }
-{
-    mark.object > object || mark.object == object && mark.order() > after
 }
 
 // Empties the ignored sets of the marks on an object that don't survive, and drops what doesn't stand then.
