@@ -3,8 +3,8 @@ ghost use Rattle.std.specs.Prelude.{◌<◌, length};
 
 use super::{Generator, Rounds, Summary, opening};
 use fan_bits::Errno;
-use fan_io::{Items, NoMemory};
-use fan_script::{Line, Reply, StepOutcome, read_line};
+use fan_io::Items;
+use fan_script::{Line, Outcomes, Reply, StepOutcome, read_line};
 use std::alloc::Global;
 use std::test::Fail;
 
@@ -95,9 +95,9 @@ fn summary_of(replies: &[Reply]) -> Summary
     summary
 }
 
-// A reply that tells what single steps did.
-fn out(alloc: Global, outcomes: &[StepOutcome]) -> Result<Reply, NoMemory> {
-    Ok(Reply::Out(Items::from_vec(Vec::from_slice(alloc, outcomes)?)))
+// A reply that tells what a single step did.
+fn out(outcome: StepOutcome) -> Reply {
+    Reply::Out(Outcomes::one(outcome))
 }
 
 #[test]
@@ -108,34 +108,17 @@ fn summaries_count_replies(rt: HostRuntime) -> Result<(), Fail> {
         Reply::Bytes(Items::from_vec(b"\x18\0\0".to_vec(rt.alloc())?)),
         Reply::Reclaimed(u64::MAX),
         Reply::Reclaimed(2),
-        out(
-            rt.alloc(),
-            &[StepOutcome::Asked(1), StepOutcome::Blocked(1)]
-        )?,
-        out(
-            rt.alloc(),
-            &[
-                StepOutcome::Allowed(1),
-                StepOutcome::Allowed(2),
-                StepOutcome::Done
-            ]
-        )?,
-        out(
-            rt.alloc(),
-            &[
-                StepOutcome::Denied(1),
-                StepOutcome::Closed(2),
-                StepOutcome::Full(2)
-            ]
-        )?,
-        out(
-            rt.alloc(),
-            &[
-                StepOutcome::Queued(1),
-                StepOutcome::Merged(2),
-                StepOutcome::Overflow(3)
-            ]
-        )?,
+        out(StepOutcome::Asked(1)),
+        out(StepOutcome::Blocked(1)),
+        out(StepOutcome::Allowed(1)),
+        out(StepOutcome::Allowed(2)),
+        out(StepOutcome::Done),
+        out(StepOutcome::Denied(1)),
+        out(StepOutcome::Closed(2)),
+        out(StepOutcome::Full(2)),
+        out(StepOutcome::Queued(1)),
+        out(StepOutcome::Merged(2)),
+        out(StepOutcome::Overflow(3)),
     ]?;
     let mut text = Vec::new(rt.alloc());
     summary_of(&replies).write(&mut text)?;

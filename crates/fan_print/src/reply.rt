@@ -71,9 +71,9 @@ fn print_outcome(out: &mut Vec<u8>, outcome: StepOutcome) -> Result<(), NoMemory
     }
 }
 
-// Puts what single steps did at the end, with a comma between each two.
+/// Puts what single steps did at the end, with a comma between each two.
 #[tactic(auto, using(std::proofs::Common::append_assoc))]
-fn print_outcomes(out: &mut Vec<u8>, outcomes: &[StepOutcome]) -> Result<(), NoMemory>
+pub(crate) fn print_outcomes(out: &mut Vec<u8>, outcomes: &[StepOutcome]) -> Result<(), NoMemory>
     ensures { OnOk result (out.new.items ≡ out.old.items ++ outcomes_text outcomes.now) }
 {
     match outcomes {

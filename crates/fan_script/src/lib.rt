@@ -8,6 +8,7 @@ mod groups;
 mod laws;
 mod line;
 mod ops;
+mod outcomes;
 mod reply;
 mod step;
 #[cfg(test)]
@@ -18,5 +19,6 @@ mod words;
 pub use fan_bits::StepOutcome;
 pub use laws::{at_most_one_line, finds_the_line};
 pub use line::{Line, LineRefused, read_line};
+pub use outcomes::Outcomes;
 pub use reply::Reply;
 pub use step::{OpWord, Step};

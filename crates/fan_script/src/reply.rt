@@ -1,5 +1,6 @@
 // What is answered to a step.
-use fan_bits::{Errno, StepOutcome};
+use super::outcomes::Outcomes;
+use fan_bits::Errno;
 use fan_io::Items;
 
 /// What the machine answers to a step.
@@ -22,5 +23,5 @@ pub enum Reply {
     /// It was refused, and nothing changed.
     Refused(Errno),
     /// What single steps of an access did.
-    Out(Items<StepOutcome>),
+    Out(Outcomes),
 }
