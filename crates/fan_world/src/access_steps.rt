@@ -1,5 +1,5 @@
 // `step`: the single steps of an access.
-ghost use Rattle.std.specs.Prelude.{◌≡◌, ◌+◌, ◌<◌, ◌^◌, ◌∷◌, [], length, OnErr};
+ghost use Rattle.std.specs.Prelude.{◌≡◌, ◌+◌, ◌<◌, ◌^◌, OnErr};
 ghost use Rattle.fan_machine.specs.Accesses.{advanced};
 ghost use Rattle.fan_machine.specs.World.{WorldState};
 ghost use Rattle.fan_world.specs.Bounds.{IsSafe};
@@ -8,13 +8,11 @@ ghost use Rattle.fan_world.specs.Machine.{IsMachine};
 
 use super::machine::Machine;
 use super::refused::Refused;
-use fan_access::StepOutcome;
 use fan_bits::Errno;
-use fan_io::{Items, NoMemory};
-use fan_script::Reply;
+use fan_script::{Outcomes, Reply};
 
 impl Machine {
-    /// `step`, of which `run` is made: ESRCH.
+    /// `step`, of which `run` is made: ESRCH. Memory is taken by the listeners alone.
     #[tactic(auto, unfolding(fan_machine::specs::Accesses::advanced))]
     pub(crate) fn advance(&mut self, number: u32) -> Result<Reply, Refused>
         requires few { self.old.steps < 2 ^ 30 }
@@ -25,20 +23,10 @@ impl Machine {
         ensures steps { self.new.steps ≡ self.old.steps }
         ensures err { OnErr result (self.new ≡ self.old) }
     {
-        let outcomes = vec![in self.alloc; StepOutcome::Done].map_err(NoMemory::from)?;
         let stepped = self.accesses.step(&mut self.groups, number)?;
         match stepped {
             None => Err(Refused::No(Errno::Esrch)),
-            Some(outcome) => Ok(reply_in(outcomes, outcome)),
+            Some(outcome) => Ok(Reply::Out(Outcomes::one(outcome))),
         }
     }
-}
-
-// The reply to a single step, in a vector of one that is there already.
-fn reply_in(mut outcomes: Vec<StepOutcome>, outcome: StepOutcome) -> Reply
-    requires { length outcomes.items ≡ 1 }
-    ensures { result ≡ Reply.Out (outcome ∷ []) }
-{
-    outcomes[0] = outcome;
-    Reply::Out(Items::from_vec(outcomes))
 }

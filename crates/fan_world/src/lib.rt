@@ -15,8 +15,6 @@ mod plans;
 mod refused;
 mod retirement;
 mod spots;
-#[cfg(test)]
-mod tests;
 mod world;
 
 pub use world::World;

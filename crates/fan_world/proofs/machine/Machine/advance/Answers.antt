@@ -16,7 +16,7 @@ returns-clause-done c world machine =
           (rw w.in-None.is at c.in_ok-stepped.ensures.none) in
           rw (w.result-is, none) refl
       | in-Some w ↦
-          rw (w.result-is, w.reply_in.ensures)
+          rw (w.result-is, w.one.ensures)
           (advance_done (the_view c.self.inside) c.step.new.groups c.step.new.self.entries
           c.step.new.self.last world c.args.number w.in-Some.outcome inside (rw w.in-Some.is at c.in_ok-stepped.ensures.stepped)
           c.step.ensures.last)
