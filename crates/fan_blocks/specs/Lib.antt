@@ -1,0 +1,2 @@
+pub mod BlocksState
+pub mod Gathers
