@@ -2,8 +2,10 @@
 use Rattle.std.proofs.Common.{◌≡◌, ℕ, ◌<◌, ◌≤◌, List, [], ◌∷◌, ◌++◌, Option, Some, None, length, refl, sym, ap, ◌∙◌, arith, append_assoc, append-nil}
 use Rattle.std.specs.Prelude.{true, false}
 use Rattle.std.specs.Io.KnownBytes.{Appends}
-use Rattle.std.proofs.KnownBytes.{Appends-nil, Appends-trans}
+use Rattle.fan_blocks.specs.Gathers.{Gathers, GathersFront}
+use Rattle.fan_blocks.proofs.GathersLemmas.{gathers_nothing, gathers_more, gathers_cut, gathers_end, front_put, front_whole, front_longer, front_end}
 use Rattle.fan_dump.specs.Dump.{Event, SpellsEvent, SpellEvents, Dump, Dumps, DumpsFront, lines_text, dump_text}
+use Rattle.fan_dump.specs.Gathered.{GathersDump, GathersDumpFront}
 use Rattle.fan_dump.specs.Printed.{PutsEvent}
 use Rattle.fan_dump.specs.Texts.{bad_text}
 use Rattle.fan_dump.proofs.InfoLemmas.{same_infos}
@@ -113,21 +115,11 @@ bad_ahead bytes written at leads before none = λ text bad dump.
     let last = closed bytes at rest.0 bad rest.1 before none in
     ([], dump.printed ∙ rest.2 ∙ ap (λ line. written ++ line) last.0 ∙ sym (append-nil (written ++ bad_text at)))
 
-front_whole : (written put more text rest whole : List ℕ) → put ++ more ≡ text
-    → whole ≡ (written ++ text) ++ rest → (written ++ put) ++ (more ++ rest) ≡ whole
-front_whole written put more text rest whole is all = rw (all, ← is) (simp append_assoc)
-
--- a front of a text behind what was put is a front of all
-front_behind : (old now new : Option (List ℕ)) (bytes written text : List ℕ) → Appends old now written
-    → Ahead bytes (written ++ text) → AppendsFront now new text → DumpsFront old new bytes
-front_behind old now new bytes written text put ahead front = λ whole bad dump.
-    let rest = ahead whole bad dump in
-    record {
-      put = written ++ front.put;
-      rest = front.rest ++ rest.0;
-      whole = front_whole written front.put front.rest text rest.0 whole front.whole rest.1;
-      appended = Appends-trans old now new written front.put put front.appended;
-    }
+-- a front of what all that is printed begins with is a front of all
+front_of_all : {old new : Option (List ℕ)} {bytes written waiting : List ℕ} → Ahead bytes written
+    → GathersFront old new waiting written → GathersDumpFront old new waiting bytes
+front_of_all ahead front = λ whole bad dump.
+    let rest = ahead whole bad dump in front_longer whole rest.0 front rest.1
 
 -- two lists of records that are spelled from a place on are one
 same_events : (bytes : List ℕ) (at : ℕ) (a b : List Event) (p q : Option ℕ) → SpellEvents bytes at a p
@@ -156,35 +148,39 @@ one_text bytes a b p q x y =
 pub one_bad : (bytes a b : List ℕ) (p q : Option ℕ) → Dump bytes a p → Dump bytes b q → p ≡ q
 one_bad bytes a b p q x y = (same_events bytes 0 x.events y.events p q x.spelled y.spelled).1
 
--- all that was put is what is printed before a place
-pub record Written (old now : Option (List ℕ)) (bytes : List ℕ) (at : ℕ) : Type 0 where
+-- all that came is what is printed before a place; what is gathered of it was not put yet
+pub record Written (old now : Option (List ℕ)) (gathered bytes : List ℕ) (at : ℕ) : Type 0 where
   pub text : List ℕ
-  pub put : Appends old now text
+  pub gathers : Gathers old now gathered text
   pub leads : Leads bytes text at
   pub within : at ≤ length bytes
 
-pub nothing_written : (old : Option (List ℕ)) (bytes : List ℕ) → Written old old bytes 0
-nothing_written old bytes =
-    record { text = []; put = Appends-nil old; leads = leads_start bytes; within = omega arith }
+pub nothing_written : (old : Option (List ℕ)) (gathered bytes : List ℕ) → gathered ≡ []
+    → Written old old gathered bytes 0
+nothing_written old gathered bytes empty = record {
+  text = [];
+  gathers = gathers_nothing old gathered empty;
+  leads = leads_start bytes;
+  within = omega arith;
+}
 
--- the text that was put for a record are its lines, where nothing stood before them
+-- the text that came for a record are its lines, where nothing stood before them
 event_lines : (parts : RecordParts) {before line : List ℕ} (text : List ℕ) (puts : PutsEvent parts before line)
     → before ≡ [] → text ≡ line → text ≡ lines_text (event_of parts puts.infos)
 event_lines parts text puts empty is = is ∙ puts.put ∙ rw empty refl
 
-module _ {old now : Option (List ℕ)} {bytes : List ℕ} {at : ℕ} (written : Written old now bytes at) where
-  -- a front of all that is printed was put
-  pub front_now : DumpsFront old now bytes
-  front_now = λ whole bad dump.
-      let rest = leads_ahead bytes written.text at written.leads whole bad dump in
-      record { put = written.text; rest = rest.0; whole = sym rest.1; appended = written.put }
+module _ {old now : Option (List ℕ)} {gathered bytes : List ℕ} {at : ℕ}
+    (written : Written old now gathered bytes at) where
+  -- a front of all that is printed came
+  pub front_now : GathersDumpFront old now gathered bytes
+  front_now = front_of_all (leads_ahead bytes written.text at written.leads) (front_whole written.gathers)
 
   -- at the end, all that is printed
-  pub put_end : at ≡ length bytes → Dumps old now bytes None
-  put_end ended = record {
+  pub all_came : at ≡ length bytes → GathersDump old now gathered bytes None
+  all_came ended = record {
     text = written.text;
     dump = leads_end bytes written.text at written.leads ended;
-    put = written.put;
+    gathers = written.gathers;
   }
 
   -- the lines of the record at this place
@@ -198,20 +194,22 @@ module _ {old now : Option (List ℕ)} {bytes : List ℕ} {at : ℕ} (written : 
         let here : SpellsEvent bytes at event = record { whole = whole; infos = puts.spelled } in
         rw (event_lines parts text puts empty is) (leads_more bytes written.text at event written.leads here)
 
-    -- they were put
-    pub put_event : {new : Option (List ℕ)} → Appends now new text → Written old new bytes (record_end bytes at)
-    put_event {new} put = record {
+    -- they came
+    pub event_came : {new : Option (List ℕ)} {waiting : List ℕ} → Gathers now new waiting (gathered ++ text)
+        → Written old new waiting bytes (record_end bytes at)
+    event_came more = record {
       text = written.text ++ text;
-      put = Appends-trans old now new written.text text written.put put;
+      gathers = gathers_more written.gathers text more;
       leads = leads_on;
       within = whole.metadata.within;
     }
 
-    -- a front of them was put
-    pub front_event : {new : Option (List ℕ)} → AppendsFront now new text → DumpsFront old new bytes
-    front_event {new} front =
-        front_behind old now new bytes written.text text written.put
-        (leads_ahead bytes (written.text ++ text) (record_end bytes at) leads_on) front
+    -- they came, and the sink failed
+    pub event_cut : {new : Option (List ℕ)} {waiting : List ℕ} → AppendsFront now new (gathered ++ text)
+        → waiting ≡ [] → GathersDumpFront old new waiting bytes
+    event_cut front none =
+        front_of_all (leads_ahead bytes (written.text ++ text) (record_end bytes at) leads_on)
+        (front_put (gathers_cut written.gathers text front) none)
 
   -- the line that names this place, at which no record is
   module _ {before line : List ℕ} (text : List ℕ) (goes_on : at ≡ length bytes → true ≡ false)
@@ -225,16 +223,36 @@ module _ {old now : Option (List ℕ)} {bytes : List ℕ} {at : ℕ} (written : 
     is_bad : text ≡ bad_text at
     is_bad = is ∙ said ∙ rw empty refl
 
-    -- it was put
-    pub put_bad : {new : Option (List ℕ)} → Appends now new text → Dumps old new bytes (Some at)
-    put_bad {new} put = record {
+    ahead : Ahead bytes (written.text ++ text)
+    ahead = rw is_bad (bad_ahead bytes written.text at written.leads before_end none)
+
+    -- it came
+    pub bad_came : {new : Option (List ℕ)} {waiting : List ℕ} → Gathers now new waiting (gathered ++ text)
+        → GathersDump old new waiting bytes (Some at)
+    bad_came more = record {
       text = written.text ++ text;
       dump = rw is_bad (leads_bad bytes written.text at written.leads before_end none);
-      put = Appends-trans old now new written.text text written.put put;
+      gathers = gathers_more written.gathers text more;
     }
 
-    -- a front of it was put
-    pub front_bad : {new : Option (List ℕ)} → AppendsFront now new text → DumpsFront old new bytes
-    front_bad {new} front =
-        front_behind old now new bytes written.text text written.put
-        (rw is_bad (bad_ahead bytes written.text at written.leads before_end none)) front
+    -- a front of all came then
+    pub bad_front : {new : Option (List ℕ)} {waiting : List ℕ} → Gathers now new waiting (gathered ++ text)
+        → GathersDumpFront old new waiting bytes
+    bad_front more = front_of_all ahead (front_whole (gathers_more written.gathers text more))
+
+    -- it came, and the sink failed
+    pub bad_cut : {new : Option (List ℕ)} {waiting : List ℕ} → AppendsFront now new (gathered ++ text)
+        → waiting ≡ [] → GathersDumpFront old new waiting bytes
+    bad_cut front emptied = front_of_all ahead (front_put (gathers_cut written.gathers text front) emptied)
+
+-- what waits of all that is printed is put
+pub dumps_end : {old now : Option (List ℕ)} {gathered bytes : List ℕ} {bad : Option ℕ}
+    (new : Option (List ℕ)) → GathersDump old now gathered bytes bad → Appends now new gathered
+    → Dumps old new bytes bad
+dumps_end new came put =
+    record { text = came.text; dump = came.dump; put = gathers_end came.gathers new put }
+
+-- what waits of a front of it is put, or a front of that
+pub dumps_front_end : {old now : Option (List ℕ)} {gathered bytes : List ℕ} (new : Option (List ℕ))
+    → GathersDumpFront old now gathered bytes → AppendsFront now new gathered → DumpsFront old new bytes
+dumps_front_end new came last = λ text bad dump. front_end (came text bad dump) last

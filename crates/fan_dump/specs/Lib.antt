@@ -1,3 +1,4 @@
 pub mod Dump
+pub mod Gathered
 pub mod Printed
 pub mod Texts

@@ -1,11 +1,13 @@
 // Records read one after the other, and their lines written.
-ghost use Rattle.std.specs.Prelude.{◌≡◌, ◌++◌, ◌≤◌, Err, IfOk, OnOk, option_map};
+ghost use Rattle.std.specs.Prelude.{◌≡◌, ◌++◌, ◌≤◌, [], Err, IfOk, OnOk, option_map};
 ghost use Rattle.fan_dump.specs.Dump.{Dumps, DumpsFront};
+ghost use Rattle.fan_dump.specs.Gathered.{GathersDump, GathersDumpFront};
 ghost use Rattle.fan_dump.specs.Texts.{bad_text};
 ghost use Rattle.fan_io.specs.Faults.{Rose};
 
 use super::event::print_event;
-use fan_io::{Failed, NoMemory, Sink, put_all};
+use fan_blocks::Blocks;
+use fan_io::{Failed, NoMemory, Sink};
 use fan_print::{print_decimal, print_text};
 use fan_record::{BadRecord, Records};
 use std::alloc::Global;
@@ -49,12 +51,48 @@ fn print_bad(out: &mut Vec<u8>, bad: BadRecord) -> Result<(), NoMemory>
     print_text(out, "\n")
 }
 
-/// Writes the lines of records and of their information records, up to the end of the bytes or to the
-/// first place where no record stands, which it then names in a last line and answers.
+// Gathers the lines of records and of their information records, up to the end of the bytes or to
+// the line that names the first place where no record stands.
+fn gather_dump<K: Sink>(
+    alloc: Global,
+    bytes: &[u8],
+    blocks: &mut Blocks,
+    sink: &mut K,
+) -> Result<Option<BadRecord>, CutOff>
+    requires { blocks.old.gathered ≡ [] }
+    ensures told { IfOk result (λ bad. GathersDump (K.held sink.old) (K.held sink.new)
+        blocks.new.gathered bytes.now (option_map (λ b. b.at) bad)) }
+    ensures front { GathersDumpFront
+        (K.held sink.old) (K.held sink.new) blocks.new.gathered bytes.now }
+    ensures fault { result ≡ Err CutOff.Failed → Rose (K.faults sink.old) (K.faults sink.new) }
+    ensures kept { K.faults sink.old ≤ K.faults sink.new }
+{
+    let mut records = Records::new(bytes);
+    let mut text = Vec::new(alloc);
+    while let Some(answer) = records.next() {
+        text.clear();
+        match answer {
+            Ok(event) => {
+                print_event(alloc, &mut text, &event)?;
+                blocks.push(&text, sink)?;
+            }
+            Err(bad) => {
+                print_bad(&mut text, bad)?;
+                blocks.push(&text, sink)?;
+                return Ok(Some(bad));
+            }
+        }
+    }
+    Ok(None)
+}
+
+/// Writes the lines of records and of their information records, up to the end of the bytes or to
+/// the first place where no record stands, which it then names in a last line and answers. The lines
+/// are put in blocks that grow; the first block is of the first record alone.
 ///
 /// # Errors
 /// - `Failed` if the sink failed; its count of faults rose.
-/// - `NoMemory` if no memory was found for a line.
+/// - `NoMemory` if no memory was found for a line. The lines before it were put.
 ///
 /// With either, a front of the text was put.
 pub fn write_dump<K: Sink>(
@@ -68,21 +106,8 @@ pub fn write_dump<K: Sink>(
     ensures fault { result ≡ Err CutOff.Failed → Rose (K.faults sink.old) (K.faults sink.new) }
     ensures kept { K.faults sink.old ≤ K.faults sink.new }
 {
-    let mut records = Records::new(bytes);
-    let mut text = Vec::new(alloc);
-    while let Some(answer) = records.next() {
-        text.clear();
-        match answer {
-            Ok(event) => {
-                print_event(alloc, &mut text, &event)?;
-                put_all(sink, &text)?;
-            }
-            Err(bad) => {
-                print_bad(&mut text, bad)?;
-                put_all(sink, &text)?;
-                return Ok(Some(bad));
-            }
-        }
-    }
-    Ok(None)
+    let mut blocks = Blocks::new(alloc);
+    let bad = gather_dump(alloc, bytes, &mut blocks, sink);
+    blocks.flush(sink)?;
+    bad
 }

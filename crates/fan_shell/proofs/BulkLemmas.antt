@@ -1,9 +1,9 @@
 -- Lines that are played and counted, one after another.
-use Rattle.std.proofs.Common.{◌≡◌, ℕ, Bool, true, false, zero, suc, ◌+◌, ◌-◌, ◌<◌, ◌≤◌, List, [], ◌∷◌, ◌++◌, length, get_or, take, refl, sym, ap, ◌∙◌, arith, append_assoc, append-nil, length-append}
+use Rattle.std.proofs.Common.{◌≡◌, ℕ, Bool, true, false, suc, ◌+◌, ◌-◌, ◌<◌, ◌≤◌, List, [], ◌∷◌, ◌++◌, length, get_or, take, refl, sym, ap, ◌∙◌, arith, append_assoc, append-nil, length-append}
 use Rattle.std.proofs.lemmas.List.{take_more}
 use Rattle.fan_bulk.specs.declared.summary.Counts.{Counts}
 use Rattle.fan_bulk.specs.Lines.{Round, bulk_lines, first_round, next_round, opening, round_lines, rounds}
-use Rattle.fan_bulk.specs.Summary.{summary, with_line, with_reply}
+use Rattle.fan_bulk.specs.Summary.{summary, with_line}
 use Rattle.fan_bulk.proofs.SummaryLemmas.{summary_more}
 use Rattle.fan_machine.specs.Next.{after, next}
 use Rattle.fan_machine.specs.Outcome.{Outcome}

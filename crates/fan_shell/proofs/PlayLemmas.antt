@@ -1,8 +1,8 @@
 -- Playing a script line by line, and what its transcript is.
 use Rattle.std.proofs.Common.{◌≡◌, ℕ, ◌+◌, List, [], ◌∷◌, ◌++◌, Bool, true, false, Option, Some, None, length, refl, sym, ap, ◌∙◌, append_assoc, append-nil}
 use Rattle.std.proofs.lemmas.List.{nil_from_length}
-use Rattle.std.specs.Io.KnownBytes.{Appends}
-use Rattle.std.proofs.KnownBytes.{Appends-nil, Appends-trans}
+use Rattle.fan_blocks.specs.Gathers.{Gathers, GathersFront}
+use Rattle.fan_blocks.proofs.GathersLemmas.{gathers_nothing, gathers_more, gathers_cut, front_put, front_whole, front_longer}
 use Rattle.fan_io.specs.Bytes.{AppendsFront}
 use Rattle.fan_machine.specs.World.{WorldState, initial_world}
 use Rattle.fan_shell.specs.Answers.{IsStart, IsTurn}
@@ -11,21 +11,27 @@ use Rattle.fan_shell.specs.Playing.{Turn, turn, after_turn, played, play}
 use Rattle.fan_shell.specs.Script.{Printed, behind, lines_of}
 use Rattle.fan_world.specs.Machine.{IsMachine, Parts}
 
--- what is printed before `rest` was put, and the parts stand for the world that the next line starts from
-pub record Leads (old now : Option (List ℕ)) (script rest : List ℕ) (parts : Parts) (number : ℕ) : Type 0
+-- what is printed before `rest` was put, but for what is gathered, and the parts stand for the world that the
+-- next line starts from
+pub record Leads (old now : Option (List ℕ)) (gathered script rest : List ℕ) (parts : Parts) (number : ℕ) : Type 0
   where
     pub written : List ℕ
-    pub put : Appends old now written
+    pub gathers : Gathers old now gathered written
     pub world : WorldState
     pub machine : IsMachine parts world
     pub is : play script ≡ behind written (played (lines_of rest) world number)
 
 -- at the start nothing is printed
-pub leads_start : (old : Option (List ℕ)) (script : List ℕ) (parts : Parts)
-    → IsMachine parts initial_world → Leads old old script script parts 1
+pub leads_start : (old : Option (List ℕ)) (gathered script : List ℕ) (parts : Parts)
+    → gathered ≡ [] → IsMachine parts initial_world → Leads old old gathered script script parts 1
 unfolding play
-leads_start old script parts machine =
-    record { written = []; put = Appends-nil old; world = initial_world; machine = machine; is = refl }
+leads_start old gathered script parts empty machine = record {
+  written = [];
+  gathers = gathers_nothing old gathered empty;
+  world = initial_world;
+  machine = machine;
+  is = refl;
+}
 
 -- behind a good line the next one starts
 started : (text : List ℕ) (start : Option WorldState) (go_on : WorldState → Printed) (parts : Parts)
@@ -52,8 +58,8 @@ turn_text : {parts : Parts} {before now : List ℕ} {good : Bool} {turn : Turn} 
     → IsTurn parts before now good turn → before ≡ [] → text ≡ now → text ≡ turn.text
 turn_text text done empty is = is ∙ done.put ∙ rw empty refl
 
-module _ {old now : Option (List ℕ)} {script rest : List ℕ} {parts : Parts} {number : ℕ}
-    (leads : Leads old now script rest parts number)
+module _ {old now : Option (List ℕ)} {gathered script rest : List ℕ} {parts : Parts} {number : ℕ}
+    (leads : Leads old now gathered script rest parts number)
     (line more : List ℕ) (lines : lines_of rest ≡ line ∷ lines_of more) where
   abbrev here : Turn
   here = turn leads.world number line
@@ -66,15 +72,15 @@ module _ {old now : Option (List ℕ)} {script rest : List ℕ} {parts : Parts} 
   turned = leads.is ∙ ap (λ pieces. behind leads.written (played pieces leads.world number)) lines
 
   -- the next line was answered, and is a good one
-  pub leads_more : {new : Option (List ℕ)} {text before answer : List ℕ} {next_parts : Parts} {good : Bool}
+  pub leads_more : {new : Option (List ℕ)} {waiting text before answer : List ℕ} {next_parts : Parts} {good : Bool}
       → IsTurn next_parts before answer good here → before ≡ [] → text ≡ answer → good ≡ true
-      → Appends now new text → Leads old new script more next_parts (number + 1)
-  leads_more {new} {text} {before} {answer} {next_parts} done empty is is_good put =
+      → Gathers now new waiting (gathered ++ text) → Leads old new waiting script more next_parts (number + 1)
+  leads_more {new} {waiting} {text} {before} {answer} {next_parts} done empty is is_good came =
       let said : text ≡ here.text = turn_text text done empty is in
       let next = started here.text here.start later next_parts (rw is_good at done.start) in
       record {
         written = leads.written ++ text;
-        put = Appends-trans old now new leads.written text leads.put put;
+        gathers = gathers_more leads.gathers text came;
         world = next.0;
         machine = next.1;
         is = turned ∙ ap (λ printed. behind leads.written printed) next.2 ∙ rw said (simp append_assoc);
@@ -88,34 +94,53 @@ module _ {old now : Option (List ℕ)} {script rest : List ℕ} {parts : Parts} 
       turned ∙ ap (λ printed. behind leads.written printed)
       (stopped here.text here.start later next_parts (rw is_bad at done.start))
 
-  -- so all is put, once its text is
-  pub leads_bad_put : (new : Option (List ℕ)) {text before answer : List ℕ} {next_parts : Parts} {good : Bool}
-      → IsTurn next_parts before answer good here → before ≡ [] → text ≡ answer → good ≡ false
-      → Appends now new text → Appends old new (play script).text
-  leads_bad_put new {text} done empty is is_bad put =
+  -- so all came, once its text did
+  pub leads_bad_all : {new : Option (List ℕ)} {waiting text before answer : List ℕ} {next_parts : Parts}
+      {good : Bool} → IsTurn next_parts before answer good here → before ≡ [] → text ≡ answer → good ≡ false
+      → Gathers now new waiting (gathered ++ text) → Gathers old new waiting (play script).text
+  leads_bad_all {text = text} done empty is is_bad came =
       let said : text ≡ here.text = turn_text text done empty is in
-      rw (leads_bad done is_bad, ← said) (Appends-trans old now new leads.written text leads.put put)
+      rw (leads_bad done is_bad, ← said) (gathers_more leads.gathers text came)
 
-  -- a front of the next line's text, behind what is printed, is a front of the whole
-  pub leads_front : {new : Option (List ℕ)} {text before answer : List ℕ} {next_parts : Parts} {good : Bool}
-      → IsTurn next_parts before answer good here → before ≡ [] → text ≡ answer
-      → AppendsFront now new text → AppendsFront old new (play script).text
-  leads_front {new} {text} done empty is front =
-      let said : text ≡ here.text = turn_text text done empty is in
-      let next = text_after here.text here.start later in
-      let all : (play script).text ≡ leads.written ++ (text ++ next.0) =
-      ap (λ (r : Printed). r.text) turned ∙ ap (λ rest. leads.written ++ rest) next.1 ∙ rw said refl in
-      record {
-        put = leads.written ++ front.put;
-        rest = front.rest ++ next.0;
-        whole = rw (all, ← front.whole) (simp append_assoc);
-        appended = Appends-trans old now new leads.written front.put leads.put front.appended;
-      }
+  -- what the script prints begins with what came before and the next line's text
+  begins : (text : List ℕ) → text ≡ here.text
+      → (after : List ℕ) × ((play script).text ≡ (leads.written ++ text) ++ after)
+  begins text said =
+      let next = text_after here.text here.start later in (
+        next.0,
+        ap (λ (r : Printed). r.text) turned ∙ ap (λ after. leads.written ++ after) next.1
+            ∙ rw said (simp append_assoc),
+      )
+
+  -- the text of the next line came: a front of all came
+  pub leads_front : {new : Option (List ℕ)} {waiting text before answer : List ℕ} {next_parts : Parts}
+      {good : Bool} → IsTurn next_parts before answer good here → before ≡ [] → text ≡ answer
+      → Gathers now new waiting (gathered ++ text) → GathersFront old new waiting (play script).text
+  leads_front {text = text} done empty is came =
+      let longer = begins text (turn_text text done empty is) in
+      front_longer (play script).text longer.0 (front_whole (gathers_more leads.gathers text came)) longer.1
+
+  -- it came, and the sink failed
+  pub leads_cut : {new : Option (List ℕ)} {waiting text before answer : List ℕ} {next_parts : Parts}
+      {good : Bool} → IsTurn next_parts before answer good here → before ≡ [] → text ≡ answer
+      → AppendsFront now new (gathered ++ text) → waiting ≡ []
+      → GathersFront old new waiting (play script).text
+  leads_cut {text = text} done empty is front none =
+      let longer = begins text (turn_text text done empty is) in
+      front_longer (play script).text longer.0 (front_put (gathers_cut leads.gathers text front) none) longer.1
+
+-- a front of all came before the next line
+pub leads_so_far : {old now : Option (List ℕ)} {gathered script rest : List ℕ} {parts : Parts} {number : ℕ}
+    (leads : Leads old now gathered script rest parts number)
+    → GathersFront old now gathered (play script).text
+leads_so_far {script = script} {rest = rest} {number = number} leads =
+    front_longer (play script).text (played (lines_of rest) leads.world number).text
+    (front_whole leads.gathers) (ap (λ (r : Printed). r.text) leads.is)
 
 -- at the end all is printed
-pub leads_end : {old now : Option (List ℕ)} {script rest : List ℕ} {parts : Parts} {number : ℕ}
-    (leads : Leads old now script rest parts number)
+pub leads_end : {old now : Option (List ℕ)} {gathered script rest : List ℕ} {parts : Parts} {number : ℕ}
+    (leads : Leads old now gathered script rest parts number)
     → length rest ≡ 0 → play script ≡ record { text = leads.written; status = statuses.Ok }
 unfolding lines_of
-leads_end {old} {now} {script} {rest} leads none =
+leads_end {old} {now} {gathered} {script} {rest} leads none =
     leads.is ∙ rw (nil_from_length rest none, append-nil) refl

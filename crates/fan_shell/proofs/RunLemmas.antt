@@ -105,3 +105,47 @@ module _ (left : ℕ) (world : WorldState) (access : ℕ) where
         put = later.put ∙ rw (single.put, behind) (simp append_assoc);
         machine = later.machine;
       })
+
+-- Answers were put at the end, each behind a comma, and the parts stand for a world: with the answers that so
+-- many single steps at most give from there on, they are all answers of a run.
+pub record RunsOn (parts : Parts) (before now : List ℕ) (left access : ℕ) (run : Ran) : Type 0 where
+  pub world : WorldState
+  pub machine : IsMachine parts world
+  pub rest : (last_parts : Parts) (all : List ℕ)
+      → IsAnswered last_parts now all (more_text (ran left world access).answers) (ran left world access).world
+      → IsAnswered last_parts before all (more_text run.answers) run.world
+
+-- at the start none was put
+pub runs_start : (parts : Parts) (text : List ℕ) (fewer left : ℕ) (state : WorldState) (access : ℕ)
+    → fewer ≡ left → IsMachine parts state → RunsOn parts text text fewer access (ran left state access)
+runs_start parts text fewer left state access same machine = rw same (record {
+  world = state;
+  machine = machine;
+  rest = λ last_parts all answered. answered;
+})
+
+module _ {parts : Parts} {before now : List ℕ} {left access : ℕ} {run : Ran}
+    (runs : RunsOn parts before now left access run) where
+  -- an answer was put that goes on
+  pub runs_more : {next_parts : Parts} {comma next : List ℕ} {ends : Bool} (fewer : ℕ)
+      → 0 < left → fewer ≡ left - 1 → ends ≡ false → comma ≡ now ++ codes ", "
+      → IsSingleStep next_parts comma next ends (first_of runs.world access)
+      → RunsOn next_parts before next fewer access run
+  runs_more fewer some less goes behind single = rw less (record {
+    world = (first_of runs.world access).world;
+    machine = single.machine;
+    rest = λ last_parts all answered.
+        runs.rest last_parts all (more_goes_on left runs.world access some goes behind single answered);
+  })
+
+  -- an answer was put that ends the run
+  pub runs_end : {last_parts : Parts} {comma all : List ℕ} {ends : Bool}
+      → 0 < left → ends ≡ true → comma ≡ now ++ codes ", "
+      → IsSingleStep last_parts comma all ends (first_of runs.world access)
+      → IsAnswered last_parts before all (more_text run.answers) run.world
+  runs_end some stops behind single =
+      runs.rest _ _ (more_ends left runs.world access some stops behind single)
+
+  -- no single step is left
+  pub runs_out : left ≡ 0 → IsAnswered parts before now (more_text run.answers) run.world
+  runs_out none = runs.rest parts now (more_none left runs.world access now none runs.machine)

@@ -1,6 +1,6 @@
 -- The text of lines is a script, and its transcript is that of their steps.
-use Rattle.std.proofs.Common.{◌≡◌, ℕ, ◌+◌, Bool, true, false, not, ◌==◌, List, [], ◌∷◌, ◌++◌, All, Option, Some, length, map, refl, sym, ap, ◌∙◌, arith, append-nil}
-use Rattle.std.specs.List.{join_with_byte, list_all, slice_split}
+use Rattle.std.proofs.Common.{◌≡◌, ℕ, Bool, true, false, ◌==◌, List, [], ◌∷◌, ◌++◌, All, Some, map, refl, ap, ◌∙◌, arith, append-nil}
+use Rattle.std.specs.List.{join_with_byte, slice_split}
 use Rattle.std.proofs.lemmas.Bool.{and_parts}
 use Rattle.std.proofs.lemmas.Bool.Decides.{nat_tests}
 use Rattle.std.proofs.lemmas.List.Elements.{All-head, All-tail, All-nil, All-cons}

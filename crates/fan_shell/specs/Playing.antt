@@ -1,7 +1,6 @@
 -- Playing a script line by line, one function for each function of the player. No caller has to believe it.
 use Rattle.std.specs.Prelude.{ℕ, ◌+◌, List, [], ◌∷◌, Option, Some, None}
 use Rattle.fan_script.specs.declared.line.Line.{Line}
-use Rattle.fan_script.specs.declared.line.Line.TheVariants.{One, Run}
 use Rattle.fan_script.specs.Reading.{line_at}
 use Rattle.fan_machine.specs.World.{WorldState, initial_world}
 use Rattle.fan_shell.specs.declared.status.Status.TheVariants as statuses

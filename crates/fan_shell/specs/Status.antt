@@ -34,6 +34,14 @@ IsToldOrCut commands.Script statuses.BadLine = Unit {0}
 IsToldOrCut commands.Dump statuses.BadRecord = Unit {0}
 IsToldOrCut _ _ = ⊥
 
+-- what is answered once lines of a script were played: all of them, those up to a bad one, or as
+-- many as memory was found for
+abbrev pub IsPlayedOrCut : Status → Type 0
+IsPlayedOrCut statuses.Ok = Unit {0}
+IsPlayedOrCut statuses.BadLine = Unit {0}
+IsPlayedOrCut statuses.NoMemory = Unit {0}
+IsPlayedOrCut _ = ⊥
+
 -- what a command may end with: the source failed or gave too much, or a text was written or cut off
 abbrev pub Ends : Command → Status → Type 0
 Ends command statuses.ReadFault = Unit {0}

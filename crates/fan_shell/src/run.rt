@@ -42,7 +42,8 @@ fn push_answer(world: &mut World, access: u32, out: &mut Vec<u8>) -> Result<bool
     Ok(is_last(&reply))
 }
 
-// Puts the answers of so many further single steps at the end, each behind a comma.
+// Puts the answers of so many further single steps at most at the end, each behind a comma, up to
+// one that ends the run.
 fn push_more(world: &mut World, access: u32, left: u32, out: &mut Vec<u8>) -> Result<(), NoMemory>
     requires { world.old.steps + left ≤ 2 ^ 30 }
     ensures ok { OnOk result ((state : WorldState) → IsMachine world.old state
@@ -50,15 +51,14 @@ fn push_more(world: &mut World, access: u32, left: u32, out: &mut Vec<u8>) -> Re
         IsAnswered world.new out.old.items out.new.items (more_text run.answers) run.world)) }
     ensures steps { world.new.steps ≤ world.old.steps + left }
 {
-    if left == 0 {
-        return Ok(());
+    for _ in 0..left {
+        print_text(out, ", ")?;
+        let ends = push_answer(world, access, out)?;
+        if ends {
+            return Ok(());
+        }
     }
-    print_text(out, ", ")?;
-    let ends = push_answer(world, access, out)?;
-    if ends {
-        return Ok(());
-    }
-    push_more(world, access, left - 1, out)
+    Ok(())
 }
 
 /// Does the single steps of an access until it waits or is finished, and puts their answers at the

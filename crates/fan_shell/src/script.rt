@@ -1,20 +1,22 @@
 // A script, answered line by line.
 ghost use Rattle.std.specs.Prelude.{◌≡◌, ◌≢◌, ◌+◌, ◌*◌, ◌<◌, ◌≤◌, ◌^◌, ◌++◌, ◌∷◌, ◌==◌, [], true, length, position, Some, None, IfOk, IfSome, OnOk, OnErr};
 ghost use Rattle.std.specs.Io.KnownBytes.{Appends};
+ghost use Rattle.fan_blocks.specs.Gathers.{Gathers, GathersFront};
 ghost use Rattle.fan_io.specs.Bytes.{AppendsFront};
-ghost use Rattle.fan_io.specs.Faults.{Rose};
+ghost use Rattle.fan_io.specs.Faults.{HasCause, Rose};
 ghost use Rattle.fan_script.specs.Reading.{line_at};
 ghost use Rattle.fan_machine.specs.World.{WorldState, initial_world};
 ghost use Rattle.fan_shell.specs.Answers.{IsAnswered, IsTurn};
 ghost use Rattle.fan_shell.specs.Playing.{turn, play};
-ghost use Rattle.fan_shell.specs.Status.{IsTold, IsToldOrCut};
+ghost use Rattle.fan_shell.specs.Status.{IsPlayedOrCut, IsTold, IsToldOrCut};
 ghost use Rattle.fan_shell.specs.Script.{answered, bad_line_text, lines_of};
 ghost use Rattle.fan_world.specs.Machine.{IsMachine};
 
 use crate::command::Command;
 use crate::run::{MAX_ANSWERS, push_run};
 use crate::status::Status;
-use fan_io::{Failed, NoMemory, Sink, put_all};
+use fan_blocks::Blocks;
+use fan_io::{Failed, NoMemory, Sink};
 use fan_print::{print_decimal, print_reply, print_text};
 use fan_script::{Line, LineRefused, read_line};
 use fan_world::World;
@@ -113,7 +115,8 @@ fn split_line(script: &[u8]) -> (&[u8], &[u8])
     }
 }
 
-/// Writes the transcript of a script, line by line, up to its end, its first bad line or a failure.
+/// Writes the transcript of a script, up to its end, its first bad line or a failure. The texts that
+/// answer the lines are put in blocks that grow; the first block is of the first line alone.
 pub(crate) fn write_transcript<K: Sink>(alloc: Global, script: &[u8], sink: &mut K) -> Status
     requires { length script.now ≤ 4194304 }
     ensures told { IsTold result
@@ -124,24 +127,57 @@ pub(crate) fn write_transcript<K: Sink>(alloc: Global, script: &[u8], sink: &mut
     ensures others { IsToldOrCut Command.Script result }
     ensures kept { K.faults sink.old ≤ K.faults sink.new }
 {
-    match World::new(alloc) {
-        Ok(mut world) => write_lines(alloc, &mut world, script, sink),
-        Err(NoMemory) => Status::NoMemory,
+    let Ok(mut world) = World::new(alloc) else {
+        return Status::NoMemory;
+    };
+    match write_lines(alloc, &mut world, script, sink) {
+        Ok(status) => status,
+        Err(Failed) => Status::WriteFault,
     }
 }
 
 // Answers the lines of a script by a machine that is new, and puts their texts.
-fn write_lines<K: Sink>(alloc: Global, world: &mut World, script: &[u8], sink: &mut K) -> Status
+fn write_lines<K: Sink>(
+    alloc: Global,
+    world: &mut World,
+    script: &[u8],
+    sink: &mut K,
+) -> Result<Status, Failed>
     requires most { length script.now ≤ 4194304 }
     requires machine { IsMachine world.old initial_world }
     requires steps { world.old.steps ≡ 0 }
-    ensures told { IsTold result
-        → Appends (K.held sink.old) (K.held sink.new) (play script.now).text }
-    ensures status { IsTold result → (play script.now).status ≡ result }
+    ensures told { IfOk result (λ status. IsTold status
+        → Appends (K.held sink.old) (K.held sink.new) (play script.now).text) }
+    ensures status { IfOk result (λ status. IsTold status → (play script.now).status ≡ status) }
     ensures front { AppendsFront (K.held sink.old) (K.held sink.new) (play script.now).text }
-    ensures fault { result ≡ Status.WriteFault → Rose (K.faults sink.old) (K.faults sink.new) }
-    ensures others { IsToldOrCut Command.Script result }
-    ensures kept { K.faults sink.old ≤ K.faults sink.new }
+    ensures ends { IfOk result IsPlayedOrCut }
+    ensures cause { HasCause (K.faults sink.old) (K.faults sink.new) result }
+{
+    let mut blocks = Blocks::new(alloc);
+    let ended = gather_lines(alloc, world, script, &mut blocks, sink);
+    blocks.flush(sink)?;
+    ended
+}
+
+// Answers the lines of a script by a machine that is new, and gathers their texts.
+fn gather_lines<K: Sink>(
+    alloc: Global,
+    world: &mut World,
+    script: &[u8],
+    blocks: &mut Blocks,
+    sink: &mut K,
+) -> Result<Status, Failed>
+    requires most { length script.now ≤ 4194304 }
+    requires machine { IsMachine world.old initial_world }
+    requires steps { world.old.steps ≡ 0 }
+    requires empty { blocks.old.gathered ≡ [] }
+    ensures told { IfOk result (λ status. IsTold status
+        → Gathers (K.held sink.old) (K.held sink.new) blocks.new.gathered (play script.now).text) }
+    ensures status { IfOk result (λ status. IsTold status → (play script.now).status ≡ status) }
+    ensures front { GathersFront
+        (K.held sink.old) (K.held sink.new) blocks.new.gathered (play script.now).text }
+    ensures ends { IfOk result IsPlayedOrCut }
+    ensures cause { HasCause (K.faults sink.old) (K.faults sink.new) result }
 {
     let mut number = 1;
     let mut rest = script;
@@ -151,17 +187,14 @@ fn write_lines<K: Sink>(alloc: Global, world: &mut World, script: &[u8], sink: &
         text.clear();
         let good = match answer_line(alloc, world, number, line, &mut text) {
             Ok(good) => good,
-            Err(NoMemory) => return Status::NoMemory,
+            Err(NoMemory) => return Ok(Status::NoMemory),
         };
-        match put_all(sink, &text) {
-            Ok(()) => {}
-            Err(Failed) => return Status::WriteFault,
-        }
+        blocks.push(&text, sink)?;
         if !good {
-            return Status::BadLine;
+            return Ok(Status::BadLine);
         }
         rest = more;
         number += 1;
     }
-    Status::Ok
+    Ok(Status::Ok)
 }

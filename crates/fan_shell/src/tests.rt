@@ -116,9 +116,27 @@ fn a_source_whose_first_take_fails_writes_nothing(rt: HostRuntime) -> Result<(),
     Ok(())
 }
 
+// By the second put the replies of four lines wait, by the third that of the last.
 #[test]
-fn a_sink_whose_second_put_fails_holds_the_first_line(rt: HostRuntime) -> Result<(), Fail> {
-    let (status, sink) = ended(rt.alloc(), &["script"], FIRST, 0, 2)?;
+fn a_sink_that_fails_holds_the_blocks_before(rt: HostRuntime) -> Result<(), Fail> {
+    let table: [(u64, &[u8]); 3] = [
+        (1, b""),
+        (2, b"inode 4\n"),
+        (3, b"inode 4\ngroup 1\nok\nok\ntold 1 queued, done\n"),
+    ];
+    for (failing_put, held) in table {
+        let (status, sink) = ended(rt.alloc(), &["script"], FIRST, 0, failing_put)?;
+        assert_eq!(rt; status, Status::WriteFault);
+        assert_eq!(rt; sink.bytes(), held);
+    }
+    Ok(())
+}
+
+#[test]
+fn a_sink_that_fails_at_the_number_of_a_bad_line_holds_the_lines_before(
+    rt: HostRuntime,
+) -> Result<(), Fail> {
+    let (status, sink) = ended(rt.alloc(), &["script"], b"mkfile /a\nopen /a\n", 0, 2)?;
     assert_eq!(rt; status, Status::WriteFault);
     assert_eq!(rt; sink.bytes(), b"inode 4\n".as_slice());
     Ok(())

@@ -1,4 +1,3 @@
-use Rattle.std.proofs.Common.{inl, inr}
 use Rattle.fan_shell.proofs.CommandLemmas.{one_bulk, one_command}
 use Rattle.fan_shell.proofs.plain.run_plain.Goals as goal
 
