@@ -1,0 +1,6 @@
+pub mod Edits
+pub mod Effects
+pub mod Needs
+pub mod Parts
+pub mod Publishing
+pub mod Steps
