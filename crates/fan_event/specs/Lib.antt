@@ -1,3 +1,4 @@
 pub mod Names
+pub mod NameBytes
 pub mod Events
 pub mod Keys

@@ -16,6 +16,7 @@ mod event;
 mod key;
 pub mod laws;
 mod name;
+mod name_bytes;
 mod reported;
 mod target;
 #[cfg(test)]

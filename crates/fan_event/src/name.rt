@@ -4,14 +4,16 @@ ghost use Rattle.std.specs.Cmp.{partial_equiv_from_equiv};
 ghost use Rattle.std.specs.Cmp.Lexicographic.{nat_list_eq_equiv, pointwise};
 ghost use Rattle.fan_event.specs.Names.{IsName, is_name};
 
-use fan_io::{Items, NoMemory};
+use super::name_bytes::NameBytes;
+use fan_io::NoMemory;
 use std::alloc::Global;
 use std::marker::Model;
 
-/// A name: 1 to 255 bytes, none of them 0. Contracts see the list of its bytes.
+/// A name: 1 to 255 bytes, none of them 0. One of at most 14 bytes takes no memory. Contracts see the
+/// list of its bytes.
 #[derive(Debug, Drop)]
 pub struct Name {
-    bytes: Items<u8>,
+    bytes: NameBytes,
 }
 
 impl Model for Name {
@@ -23,23 +25,24 @@ impl Model for Name {
 
     ghost coded = { coded_list coded_ℕ };
 
-    ghost view = { λ n. n.bytes };
+    ghost use Rattle.fan_event.specs.NameBytes.{IsHeld, bytes_in};
 
-    ghost invariant = { λ n. IsName n.bytes };
+    ghost view = { λ n. bytes_in n.bytes };
+
+    ghost invariant = { λ n. IsHeld n.bytes × IsName (bytes_in n.bytes) };
 }
 
 impl Name {
     /// The name with these bytes.
     ///
     /// # Errors
-    /// `NoMemory` if no memory was found for a copy of them.
+    /// `NoMemory` if no memory was found for a copy of more than 14 of them.
     pub fn of(alloc: Global, bytes: &[u8]) -> Result<Name, NoMemory>
         requires { IsName bytes.now }
         ensures { IfOk result (λ name. name ≡ bytes.now) }
     {
-        let copy = Vec::from_slice(alloc, bytes)?;
         Ok(Name {
-            bytes: Items::from_vec(copy),
+            bytes: NameBytes::of(alloc, bytes)?,
         })
     }
 

@@ -132,6 +132,24 @@ fn a_name_is_its_bytes(rt: HostRuntime) -> Result<(), Fail> {
     Ok(())
 }
 
+// Up to 14 bytes stand in place.
+#[test]
+fn short_and_long_names_are_their_bytes(rt: HostRuntime) -> Result<(), Fail> {
+    for text in [
+        "abcdefghijklmn",
+        "abcdefghijklmno",
+        "a name that is longer than these",
+    ] {
+        if is_name(text.as_bytes()) {
+            let name = Name::of(rt.alloc(), text.as_bytes())?;
+            let copy = name.copy_in(rt.alloc())?;
+            assert_eq!(rt; copy.bytes(), text.as_bytes());
+            assert_eq!(rt; copy, name);
+        }
+    }
+    Ok(())
+}
+
 // FNV-1a of "a" is 0xaf63dc4c8601ec8c.
 #[test]
 fn names_tell_keys_apart(rt: HostRuntime) -> Result<(), Fail> {
