@@ -1,5 +1,5 @@
 -- What a group is told of a happening: fanotify(7), "Reading fanotify events".
-use Rattle.std.specs.Prelude.{◌≡◌, ⊤, ℕ, Bool, true, not, ◌&&◌, ◌||◌, List, [], ◌∷◌, Option, Some, None, is_some, if◌then◌else◌}
+use Rattle.std.specs.Prelude.{◌≡◌, ⊤, ℕ, Bool, true, false, not, ◌&&◌, ◌||◌, List, [], ◌∷◌, Option, Some, None, is_some, if◌then◌else◌}
 use Rattle.std.specs.Int.RustNames.{bit_or}
 use Rattle.fan_bits.specs.declared.place.Happening.{Happening}
 use Rattle.fan_bits.specs.declared.place.Place.{Place}
@@ -13,6 +13,11 @@ use Rattle.fan_event.specs.declared.target.Target.TheVariants.{Fd, Handle}
 abbrev pub IsTarget : Target → Type 0
 IsTarget (Fd mount inode) = ⊤
 IsTarget (Handle fs object dir name) = is_some name ≡ true → is_some dir ≡ true
+
+-- the object is reported by a descriptor, and not by handles
+abbrev pub has_fd : Target → Bool
+has_fd (Fd mount inode) = true
+has_fd (Handle fs object dir name) = false
 
 -- `.`, the name by which a directory is reported in itself
 abbrev pub dot : List ℕ

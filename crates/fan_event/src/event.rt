@@ -3,7 +3,7 @@ ghost use Rattle.std.specs.Prelude.{◌≡◌, IfOk};
 ghost use Rattle.fan_event.specs.Events.{event_for, with_bits};
 ghost use Rattle.fan_event.specs.Names.{IsName};
 
-use super::reported::target_of;
+use super::notice::{Notice, notice_for};
 use super::target::Target;
 use fan_bits::{Happening, InitWords};
 use fan_io::NoMemory;
@@ -30,6 +30,19 @@ impl Event {
         ensures { self.new ≡ with_bits bits self.old }
     {
         self.bits |= bits;
+    }
+
+    /// The event with its name borrowed. Takes no memory.
+    pub fn notice(&self) -> Notice<'_>
+        ensures { result ≡ self.now }
+    {
+        Notice {
+            bits: self.bits,
+            ondir: self.ondir,
+            who: self.who,
+            perm: self.perm,
+            target: self.target.borrowed(),
+        }
     }
 
     /// A copy of it.
@@ -70,11 +83,5 @@ pub fn event_for(
     ensures { IfOk result (λ event. event
         ≡ event_for init.bits happening.now name.now bits pid tid perm) }
 {
-    Ok(Event {
-        bits,
-        ondir: happening.ondir,
-        who: if init.reports_tid() { tid } else { pid },
-        perm,
-        target: target_of(alloc, init, happening, name, bits)?,
-    })
+    notice_for(init, happening, name, bits, pid, tid, perm).to_event(alloc)
 }

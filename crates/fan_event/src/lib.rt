@@ -17,12 +17,15 @@ mod key;
 pub mod laws;
 mod name;
 mod name_bytes;
+mod notice;
 mod reported;
 mod target;
+mod target_ref;
 #[cfg(test)]
 mod tests;
 
 pub use event::{Event, event_for};
 pub use key::{key_hash, same_key};
 pub use name::{Name, is_name};
+pub use notice::{Notice, notice_for};
 pub use target::Target;

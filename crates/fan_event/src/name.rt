@@ -56,12 +56,59 @@ impl Name {
         Name::of(alloc, self.bytes())
     }
 
+    /// It, borrowed.
+    pub(crate) fn borrowed(&self) -> NameRef<'_>
+        ensures { result ≡ self.now }
+    {
+        NameRef {
+            bytes: self.bytes(),
+        }
+    }
+
     /// Its bytes.
     pub fn bytes(&self) -> &[u8]
         ensures value { result.now ≡ self.now }
         ensures whole { IsName self.now }
     {
         self.bytes.as_slice()
+    }
+}
+
+/// A name that is borrowed. Contracts see the list of its bytes.
+#[derive(Debug, Drop)]
+pub(crate) struct NameRef<'a> {
+    bytes: &'a [u8],
+}
+
+impl<'a> Model for NameRef<'a> {
+    ghost use Rattle.std.specs.Prelude.{ℕ, List};
+    ghost use Rattle.std.specs.Coded.{coded_list, coded_ℕ};
+    ghost use Rattle.fan_event.specs.Names.{IsName};
+
+    ghost Value = { List ℕ };
+
+    ghost coded = { coded_list coded_ℕ };
+
+    ghost view = { λ n. n.bytes.now };
+
+    ghost invariant = { λ n. IsName n.bytes.now };
+}
+
+impl<'a> NameRef<'a> {
+    /// The name with these bytes.
+    pub(crate) fn of(bytes: &'a [u8]) -> NameRef<'a>
+        requires { IsName bytes.now }
+        ensures { result ≡ bytes.now }
+    {
+        NameRef { bytes }
+    }
+
+    /// Its bytes.
+    pub(crate) fn bytes(&self) -> &[u8]
+        ensures value { result.now ≡ self.now }
+        ensures whole { IsName self.now }
+    {
+        self.bytes
     }
 }
 

@@ -1,51 +1,48 @@
 // The object of an event as a group reports it: fanotify_init(2), under FAN_REPORT_FID,
 // FAN_REPORT_DIR_FID and FAN_REPORT_NAME.
-ghost use Rattle.std.specs.Prelude.{◌≡◌, ◌&&◌, IfOk};
+ghost use Rattle.std.specs.Prelude.{◌≡◌, ◌&&◌};
 ghost use Rattle.fan_bits.specs.Words.{occurs, report_name};
 ghost use Rattle.fan_event.specs.Events.{directory_of, handles_of, if_so, is_of_file_itself, name_of, reports_dir, reports_object, target_of};
 ghost use Rattle.fan_event.specs.Names.{IsName};
+ghost use Rattle.fan_event.specs.Notices.{target_seen};
 
-use super::name::Name;
-use super::target::Target;
+use super::name::NameRef;
+use super::target_ref::TargetRef;
 use fan_bits::{Happening, InitWords, Place, has_self_event};
-use fan_io::NoMemory;
-use std::alloc::Global;
 
 // The object: by handles if the group reports them, else by its mount and its inode.
-pub(crate) fn target_of(
-    alloc: Global,
+pub(crate) fn target_of<'a>(
     init: InitWords,
     happening: &Happening,
-    name: &[u8],
+    name: &'a [u8],
     bits: u32,
-) -> Result<Target, NoMemory>
+) -> TargetRef<'a>
     requires { IsName name.now }
-    ensures { IfOk result (λ target. target ≡ target_of init.bits happening.now name.now bits) }
+    ensures { target_seen result ≡ target_of init.bits happening.now name.now bits }
 {
     if init.has_handles() {
-        handles_of(alloc, init, happening, name, bits)
+        handles_of(init, happening, name, bits)
     } else {
-        Ok(Target::Fd {
+        TargetRef::Fd {
             mount: happening.place.mount,
             inode: happening.place.inode,
-        })
+        }
     }
 }
 
 // The object by handles.
-fn handles_of(
-    alloc: Global,
+fn handles_of<'a>(
     init: InitWords,
     happening: &Happening,
-    name: &[u8],
+    name: &'a [u8],
     bits: u32,
-) -> Result<Target, NoMemory>
+) -> TargetRef<'a>
     requires { IsName name.now }
-    ensures { IfOk result (λ target. target ≡ handles_of init.bits happening.now name.now bits) }
+    ensures { target_seen result ≡ handles_of init.bits happening.now name.now bits }
 {
     let place = &happening.place;
     let with_dir = reports_dir(init, happening, bits);
-    Ok(Target::Handle {
+    TargetRef::Handle {
         fs: place.fs,
         object: if reports_object(init, happening, bits) {
             Some(place.inode)
@@ -54,11 +51,11 @@ fn handles_of(
         },
         dir: if with_dir { directory_of(place) } else { None },
         name: if with_dir && init.reports_name() {
-            Some(Name::of(alloc, name_of(happening, name))?)
+            Some(NameRef::of(name_of(happening, name)))
         } else {
             None
         },
-    })
+    }
 }
 
 // Whether a file was itself removed or renamed.

@@ -1,7 +1,9 @@
 // The object of an event.
 ghost use Rattle.std.specs.Prelude.{◌≡◌, IfOk};
+ghost use Rattle.fan_event.specs.Notices.{target_seen};
 
-use super::name::Name;
+use super::name::{Name, NameRef};
+use super::target_ref::TargetRef;
 use fan_io::NoMemory;
 use std::alloc::Global;
 
@@ -30,6 +32,29 @@ pub enum Target {
 }
 
 impl Target {
+    /// It, with its name borrowed.
+    pub(crate) fn borrowed(&self) -> TargetRef<'_>
+        ensures { target_seen result ≡ self.now }
+    {
+        match self {
+            Target::Fd { mount, inode } => TargetRef::Fd {
+                mount: *mount,
+                inode: *inode,
+            },
+            Target::Handle {
+                fs,
+                object,
+                dir,
+                name,
+            } => TargetRef::Handle {
+                fs: *fs,
+                object: *object,
+                dir: *dir,
+                name: borrowed_name(name),
+            },
+        }
+    }
+
     /// A copy of it.
     ///
     /// # Errors
@@ -54,6 +79,16 @@ impl Target {
                 name: copy_of(name, alloc)?,
             }),
         }
+    }
+}
+
+// A name as it is borrowed, if there is one.
+fn borrowed_name(name: &Option<Name>) -> Option<NameRef<'_>>
+    ensures { result ≡ name.now }
+{
+    match name {
+        Some(name) => Some(name.borrowed()),
+        None => None,
     }
 }
 

@@ -8,6 +8,7 @@ use Rattle.fan_bits.specs.Words.{bit}
 use Rattle.fan_event.specs.declared.event.Event.{Event}
 use Rattle.fan_event.specs.declared.target.Target.{Target}
 use Rattle.fan_event.specs.declared.target.Target.TheVariants.{Fd, Handle}
+pub use Rattle.fan_event.specs.Events.{has_fd}
 use Rattle.fan_fid.specs.Written.{infos_of}
 use Rattle.fan_queue.specs.declared.entry.Body.{Body}
 use Rattle.fan_queue.specs.declared.entry.Body.TheVariants.{Told, Lost}
@@ -19,11 +20,6 @@ use Rattle.fan_record.specs.Written.{record_bytes}
 -- how many bytes a record has before its information records
 abbrev pub metadata_len : ℕ
 metadata_len = 24
-
--- the object is reported by a descriptor, and not by handles
-abbrev pub has_fd : Target → Bool
-has_fd (Fd mount inode) = true
-has_fd (Handle fs object dir name) = false
 
 -- the mask of an event's record: beside handles it tells with FAN_ONDIR of a directory
 abbrev pub mask_field : Event → ℕ

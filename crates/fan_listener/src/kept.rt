@@ -11,12 +11,12 @@ ghost use Rattle.fan_listener.specs.Shut.{shut_state};
 
 use super::answers::{Answer, Answered, Pending, ReadRefused, Verdict, WriteRefused};
 use super::asked::AskedEvents;
-use super::records::{drop_front, first_is_longer, front_within, has_fd, take_entries};
+use super::records::{drop_front, first_is_longer, front_within, take_entries};
 use super::responses::{fd_field, take_waiting, value_field, verdict};
 use super::rooms::{Rooms, forget_all, take_verdict};
 use super::shut::Shut;
 use fan_bits::InitWords;
-use fan_event::Event;
+use fan_event::Notice;
 use fan_io::NoMemory;
 use fan_map::Map;
 use fan_queue::{Put, Queue};
@@ -117,15 +117,15 @@ impl KeptListener {
 
     /// Puts a permission event on the queue. It is never merged. Memory is found here for its answer
     /// too; no response can name one that is reported by handles. `NoMemory` changes nothing.
-    pub(crate) fn ask(&mut self, event: Event) -> Result<Put, NoMemory>
-        requires permission { event.perm ≡ true }
+    pub(crate) fn ask(&mut self, event: &Notice<'_>) -> Result<Put, NoMemory>
+        requires permission { event.now.perm ≡ true }
         requires entries { self.old.next_entry ≤ 2 ^ 31 }
-        ensures ok { IfOk result (λ outcome. (outcome, self.new) ≡ put self.old event) }
+        ensures ok { IfOk result (λ outcome. (outcome, self.new) ≡ put self.old event.now) }
         ensures never_merged { (entry : ℕ) → result ≢ Ok (Put.Merged entry) }
         ensures err { OnErr result (self.new ≡ self.old) }
         ensures moved { Makes 1 self.old self.new }
     {
-        if has_fd(&event.target) {
+        if event.has_fd() {
             self.put_asked(event)
         } else {
             self.put_by_handles(event)
@@ -134,14 +134,14 @@ impl KeptListener {
 
     /// Puts an event that is no permission event on the queue, or merges it into the first queued
     /// event with its key. `NoMemory` changes nothing.
-    pub(crate) fn tell(&mut self, event: Event) -> Result<Put, NoMemory>
-        requires notice { event.perm ≡ false }
+    pub(crate) fn tell(&mut self, event: &Notice<'_>) -> Result<Put, NoMemory>
+        requires notice { event.now.perm ≡ false }
         requires entries { self.old.next_entry ≤ 2 ^ 31 }
-        ensures ok { IfOk result (λ outcome. (outcome, self.new) ≡ put self.old event) }
+        ensures ok { IfOk result (λ outcome. (outcome, self.new) ≡ put self.old event.now) }
         ensures err { OnErr result (self.new ≡ self.old) }
         ensures moved { Makes 1 self.old self.new }
     {
-        if has_fd(&event.target) {
+        if event.has_fd() {
             self.put_told(event)
         } else {
             self.put_by_handles(event)
@@ -149,27 +149,27 @@ impl KeptListener {
     }
 
     // Puts an event on the queue that takes no descriptor.
-    fn put_by_handles(&mut self, event: Event) -> Result<Put, NoMemory>
-        requires handles { has_fd event.target ≡ false }
+    fn put_by_handles(&mut self, event: &Notice<'_>) -> Result<Put, NoMemory>
+        requires handles { has_fd event.now.target ≡ false }
         requires entries { self.old.next_entry ≤ 2 ^ 31 }
-        ensures ok { IfOk result (λ outcome. (outcome, self.new) ≡ put self.old event) }
-        ensures never_merged { event.perm ≡ true
+        ensures ok { IfOk result (λ outcome. (outcome, self.new) ≡ put self.old event.now) }
+        ensures never_merged { event.now.perm ≡ true
             → (entry : ℕ) → result ≢ Ok (Put.Merged entry) }
         ensures err { OnErr result (self.new ≡ self.old) }
     {
         if self.closed {
             return Ok(Put::Closed);
         }
-        let put = self.queue.put(event)?;
+        let put = self.queue.put_notice(event)?;
         Ok(put)
     }
 
     // Puts a permission event on the queue, and among those without a verdict if it was queued.
-    fn put_asked(&mut self, event: Event) -> Result<Put, NoMemory>
-        requires permission { event.perm ≡ true }
-        requires descriptor { has_fd event.target ≡ true }
+    fn put_asked(&mut self, event: &Notice<'_>) -> Result<Put, NoMemory>
+        requires permission { event.now.perm ≡ true }
+        requires descriptor { has_fd event.now.target ≡ true }
         requires entries { self.old.next_entry ≤ 2 ^ 31 }
-        ensures ok { IfOk result (λ outcome. (outcome, self.new) ≡ put self.old event) }
+        ensures ok { IfOk result (λ outcome. (outcome, self.new) ≡ put self.old event.now) }
         ensures never_merged { (entry : ℕ) → result ≢ Ok (Put.Merged entry) }
         ensures err { OnErr result (self.new ≡ self.old) }
     {
@@ -178,8 +178,8 @@ impl KeptListener {
         }
         self.asked.reserve()?;
         self.rooms.reserve()?;
-        let copy = event.copy_in(self.alloc)?;
-        let put = self.queue.put(event)?;
+        let copy = event.to_event(self.alloc)?;
+        let put = self.queue.put_notice(event)?;
         let Put::Queued { entry } = put else {
             return Ok(put);
         };
@@ -194,17 +194,17 @@ impl KeptListener {
     }
 
     // Puts an event that is no permission event on the queue.
-    fn put_told(&mut self, event: Event) -> Result<Put, NoMemory>
-        requires notice { event.perm ≡ false }
-        requires descriptor { has_fd event.target ≡ true }
+    fn put_told(&mut self, event: &Notice<'_>) -> Result<Put, NoMemory>
+        requires notice { event.now.perm ≡ false }
+        requires descriptor { has_fd event.now.target ≡ true }
         requires entries { self.old.next_entry ≤ 2 ^ 31 }
-        ensures ok { IfOk result (λ outcome. (outcome, self.new) ≡ put self.old event) }
+        ensures ok { IfOk result (λ outcome. (outcome, self.new) ≡ put self.old event.now) }
         ensures err { OnErr result (self.new ≡ self.old) }
     {
         if self.closed {
             return Ok(Put::Closed);
         }
-        let put = self.queue.put(event)?;
+        let put = self.queue.put_notice(event)?;
         let Put::Queued { .. } = put else {
             return Ok(put);
         };

@@ -30,6 +30,6 @@ mod shut;
 mod tests;
 
 pub use answers::{Answer, Answered, ReadRefused, Verdict, WriteRefused};
-pub use fan_event::{Event, Target, event_for};
+pub use fan_event::{Event, Notice, Target, event_for, notice_for};
 pub use fan_queue::{Body, Entry, Put};
 pub use listener::Listener;

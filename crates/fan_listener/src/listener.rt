@@ -11,7 +11,7 @@ use super::answers::{Answer, Answered, ReadRefused, WriteRefused};
 use super::kept::KeptListener;
 use super::shut::Shut;
 use fan_bits::InitWords;
-use fan_event::Event;
+use fan_event::{Event, Notice};
 use fan_io::NoMemory;
 use fan_queue::Put;
 use std::alloc::Global;
@@ -98,11 +98,24 @@ impl Listener {
 
     /// Puts a permission event on the queue. It is never merged. Memory is found here for its answer
     /// too; no response can name one that is reported by handles. `NoMemory` changes nothing.
-    #[tactic(auto, unfolding(crate::specs::Queue::put))]
     pub fn ask(&mut self, event: Event) -> Result<Put, NoMemory>
         requires permission { event.perm ≡ true }
         requires entries { self.old.next_entry ≤ 2 ^ 31 }
         ensures ok { IfOk result (λ outcome. (outcome, self.new) ≡ put self.old event) }
+        ensures never_merged { (entry : ℕ) → result ≢ Ok (Put.Merged entry) }
+        ensures err { OnErr result (self.new ≡ self.old) }
+        ensures moved { Makes 1 self.old self.new }
+    {
+        self.ask_notice(&event.notice())
+    }
+
+    /// Puts a permission event on the queue, as [`Listener::ask`] does. The event is copied only where
+    /// it is queued.
+    #[tactic(auto, unfolding(crate::specs::Queue::put))]
+    pub fn ask_notice(&mut self, event: &Notice<'_>) -> Result<Put, NoMemory>
+        requires permission { event.now.perm ≡ true }
+        requires entries { self.old.next_entry ≤ 2 ^ 31 }
+        ensures ok { IfOk result (λ outcome. (outcome, self.new) ≡ put self.old event.now) }
         ensures never_merged { (entry : ℕ) → result ≢ Ok (Put.Merged entry) }
         ensures err { OnErr result (self.new ≡ self.old) }
         ensures moved { Makes 1 self.old self.new }
@@ -115,11 +128,23 @@ impl Listener {
 
     /// Puts an event that is no permission event on the queue, or merges it into the first queued
     /// event with its key. `NoMemory` changes nothing.
-    #[tactic(auto, unfolding(crate::specs::Queue::put))]
     pub fn tell(&mut self, event: Event) -> Result<Put, NoMemory>
         requires notice { event.perm ≡ false }
         requires entries { self.old.next_entry ≤ 2 ^ 31 }
         ensures ok { IfOk result (λ outcome. (outcome, self.new) ≡ put self.old event) }
+        ensures err { OnErr result (self.new ≡ self.old) }
+        ensures moved { Makes 1 self.old self.new }
+    {
+        self.tell_notice(&event.notice())
+    }
+
+    /// Puts an event that is no permission event on the queue, as [`Listener::tell`] does. The event is
+    /// copied only where it is queued.
+    #[tactic(auto, unfolding(crate::specs::Queue::put))]
+    pub fn tell_notice(&mut self, event: &Notice<'_>) -> Result<Put, NoMemory>
+        requires notice { event.now.perm ≡ false }
+        requires entries { self.old.next_entry ≤ 2 ^ 31 }
+        ensures ok { IfOk result (λ outcome. (outcome, self.new) ≡ put self.old event.now) }
         ensures err { OnErr result (self.new ≡ self.old) }
         ensures moved { Makes 1 self.old self.new }
     {

@@ -35,7 +35,7 @@ pub(crate) struct Taken {
 }
 
 // Whether an object is reported by a descriptor, and not by handles.
-pub(crate) fn has_fd(target: &Target) -> bool
+fn has_fd(target: &Target) -> bool
     ensures { result ≡ has_fd target.now }
 {
     matches!(target, Target::Fd { .. })

@@ -2,7 +2,7 @@
 ghost use Rattle.std.specs.Prelude.{◌≡◌};
 ghost use Rattle.fan_queue.specs.Queue.{is_lost, merged, takes};
 
-use fan_event::{Event, same_key};
+use fan_event::{Event, Notice};
 
 /// What became of an event that was put on a queue.
 #[derive(Clone, Copy, Debug, PartialEq, Eq)]
@@ -47,11 +47,11 @@ pub struct Entry {
 impl Entry {
     // Whether it takes the bits of an event.
     #[tactic(auto, unfolding(crate::specs::Queue::takes))]
-    pub(crate) fn takes(&self, event: &Event) -> bool
+    pub(crate) fn takes(&self, event: &Notice<'_>) -> bool
         ensures { result ≡ takes event.now self.now }
     {
         match &self.body {
-            Body::Told(old) => !event.perm && !old.perm && same_key(old, event),
+            Body::Told(old) => !event.is_permission() && !old.perm && event.has_key_of(old),
             Body::Lost => false,
         }
     }
@@ -65,11 +65,11 @@ impl Entry {
 
     // Takes the bits of an event.
     #[tactic(auto, unfolding(crate::specs::Queue::merged))]
-    pub(crate) fn merge(&mut self, event: &Event)
+    pub(crate) fn merge(&mut self, event: &Notice<'_>)
         ensures { self.new ≡ merged event.now self.old }
     {
         if let Body::Told(old) = &mut self.body {
-            old.take_bits(event.bits);
+            old.take_bits(event.bits());
         }
     }
 }

@@ -15,7 +15,7 @@ pub(crate) struct EntryKey {
     pub(crate) number: u64,
 }
 
-// The key of an entry; none if it never takes bits.
+// The key of an entry; none if it never takes bits. It hashes its event.
 pub(crate) fn key_of(entry: &Entry) -> Option<EntryKey>
     ensures key { result ≡ key_of entry.now }
     ensures number { ForSome result (λ key. key.number ≡ entry.now.number) }

@@ -1,16 +1,19 @@
 // The queue itself.
-ghost use Rattle.std.specs.Prelude.{◌≡◌, ◌≢◌, ℕ, ◌<◌, ◌≤◌, ◌^◌, ◌↔◌, IsTrue, true, [], None, Some, Ok, IfNone, IfOk, IfSome, OnErr, OnOk, find, if◌then◌else◌, length, position, slice_get};
+ghost use Rattle.std.specs.Prelude.{◌≡◌, ◌≢◌, ℕ, ◌<◌, ◌≤◌, ◌^◌, ◌↔◌, IsTrue, true, false, [], None, Some, Ok, IfNone, IfOk, IfSome, OnErr, OnOk, find, if◌then◌else◌, length, position, slice_get};
 ghost use Rattle.std.specs.Option.{option_copied, option_map};
 ghost use Rattle.std.specs.VecDeque.{deque_capacity, deque_len};
+ghost use Rattle.fan_event.specs.Keys.{key_hash};
 ghost use Rattle.fan_lists.specs.First.{change_first};
+ghost use Rattle.fan_queue.specs.Keys.{key_in};
 ghost use Rattle.fan_queue.specs.QueueState.{new_queue};
 ghost use Rattle.fan_queue.specs.Queue.{is_full, is_lost, merged, put, put_event, put_lost, queued, taken, takes};
 ghost use Rattle.fan_queue.specs.Queued.{CanBeQueued, IsQueue};
 
 use super::entry::{Body, Entry, Put};
+use super::keys::EntryKey;
 use super::table::{Table, front_number};
 use super::taker::taker;
-use fan_event::Event;
+use fan_event::{Event, Notice};
 use fan_io::NoMemory;
 use std::alloc::Global;
 use std::collections::VecDeque;
@@ -123,24 +126,73 @@ impl Queue {
         self.lost = None;
     }
 
-    /// Puts an event on the queue. A permission event is never merged.
+    /// Puts an event on the queue, as [`Queue::put_notice`] does.
     ///
     /// # Errors
     /// `NoMemory` if the event, or the lost entry, had to be queued and no memory was found for it.
-    #[tactic(auto, unfolding(crate::specs::Queue::put))]
     pub fn put(&mut self, event: Event) -> Result<Put, NoMemory>
         requires { self.old.next_entry ≤ 2 ^ 31 }
         ensures ok { IfOk result (λ outcome. (outcome, self.new) ≡ put self.old event) }
         ensures never_merged { event.perm ≡ true → (entry : ℕ) → result ≢ Ok (Put.Merged entry) }
         ensures err { OnErr result (self.new ≡ self.old) }
     {
+        self.put_notice(&event.notice())
+    }
+
+    /// Puts an event on the queue. A permission event is never merged. The event is copied only where it
+    /// is queued: at the limit, and where it is merged, no memory is taken for it.
+    ///
+    /// # Errors
+    /// `NoMemory` if the event, or the lost entry, had to be queued and no memory was found for it.
+    #[tactic(auto, unfolding(crate::specs::Queue::put))]
+    pub fn put_notice(&mut self, event: &Notice<'_>) -> Result<Put, NoMemory>
+        requires { self.old.next_entry ≤ 2 ^ 31 }
+        ensures ok { IfOk result (λ outcome. (outcome, self.new) ≡ put self.old event.now) }
+        ensures never_merged { event.now.perm ≡ true
+            → (entry : ℕ) → result ≢ Ok (Put.Merged entry) }
+        ensures err { OnErr result (self.new ≡ self.old) }
+    {
         if self.is_full() {
             return self.put_lost();
         }
-        if let Some(entry) = self.merge(&event) {
+        if event.is_permission() {
+            return self.push_permission(event);
+        }
+        self.merge_or_push(event)
+    }
+
+    // Queues a permission event last.
+    fn push_permission(&mut self, event: &Notice<'_>) -> Result<Put, NoMemory>
+        requires few { self.old.next_entry ≤ 2 ^ 31 }
+        requires permission { event.now.perm ≡ true }
+        ensures ok { IfOk result (λ outcome. (outcome, self.new)
+            ≡ put_event self.old event.now (find (takes event.now) self.old.entries)) }
+        ensures never_merged { (entry : ℕ) → result ≢ Ok (Put.Merged entry) }
+        ensures err { OnErr result (self.new ≡ self.old) }
+    {
+        let copy = event.to_event(self.alloc)?;
+        let entry = self.push(Body::Told(copy), None)?;
+        Ok(Put::Queued { entry })
+    }
+
+    // Merges an event that is no permission event into the entry that takes it, or queues it last.
+    fn merge_or_push(&mut self, event: &Notice<'_>) -> Result<Put, NoMemory>
+        requires few { self.old.next_entry ≤ 2 ^ 31 }
+        requires notice { event.now.perm ≡ false }
+        ensures ok { IfOk result (λ outcome. (outcome, self.new)
+            ≡ put_event self.old event.now (find (takes event.now) self.old.entries)) }
+        ensures err { OnErr result (self.new ≡ self.old) }
+    {
+        let hash = event.key_hash();
+        if let Some(entry) = self.merge(event, hash) {
             return Ok(Put::Merged { entry });
         }
-        let entry = self.push(Body::Told(event))?;
+        let key = EntryKey {
+            hash,
+            number: self.next_entry(),
+        };
+        let copy = event.to_event(self.alloc)?;
+        let entry = self.push(Body::Told(copy), Some(key))?;
         Ok(Put::Queued { entry })
     }
 
@@ -166,26 +218,28 @@ impl Queue {
         if let Some(entry) = self.lost {
             return Ok(Put::Overflow { entry });
         }
-        let entry = self.push(Body::Lost)?;
+        let entry = self.push(Body::Lost, None)?;
         Ok(Put::Overflow { entry })
     }
 
-    // Merges an event into the entry that takes it, and answers the number of this entry.
-    fn merge(&mut self, event: &Event) -> Option<u64>
+    // Merges an event with the hash `hash` into the entry that takes it, and answers the number of this entry.
+    fn merge(&mut self, event: &Notice<'_>, hash: u64) -> Option<u64>
+        requires { hash ≡ key_hash event.now }
         ensures merged { IfSome result (λ entry. (Put.Merged entry, self.new)
             ≡ put_event self.old event.now (find (takes event.now) self.old.entries)) }
         ensures none { IfNone result (find (takes event.now) self.old.entries ≡ None) }
         ensures same { IfNone result (self.new ≡ self.old) }
     {
         let front = front_number(&self.entries, self.next_entry);
-        let index = taker(&self.entries, &self.table, front, event)?;
+        let index = taker(&self.entries, &self.table, front, event, hash)?;
         Some(merge_at(&mut self.entries, index, event))
     }
 
-    // Queues an entry last, under the next number, and answers this number.
+    // Queues an entry last, under the next number, and answers this number. Its key is known.
     #[tactic(auto, unfolding(crate::specs::Queue::queued))]
-    fn push(&mut self, body: Body) -> Result<u64, NoMemory>
+    fn push(&mut self, body: Body, key: Option<EntryKey>) -> Result<u64, NoMemory>
         requires few { self.old.next_entry ≤ 2 ^ 31 }
+        requires key { key ≡ key_in self.old.next_entry body }
         requires fits { CanBeQueued self.old.entries body }
         ensures number { IfOk result (λ number. number ≡ self.old.next_entry) }
         ensures ok { OnOk result (self.new ≡ queued self.old body) }
@@ -194,7 +248,8 @@ impl Queue {
         reserve_for(&mut self.entries, &body)?;
         let number = self.next_entry;
         let entry = Entry { number, body };
-        self.table.note_last(self.alloc, &self.entries, &entry)?;
+        self.table
+            .note_last(self.alloc, &self.entries, &entry, key)?;
         self.lost = lost_with(self.lost, &entry);
         self.entries.push_back_reserved(entry);
         self.next_entry += 1;
@@ -216,7 +271,7 @@ fn reserve_for(entries: &mut VecDeque<Entry>, body: &Body) -> Result<(), NoMemor
 }
 
 // The first entry that takes the bits of an event takes them. Its number.
-fn merge_at(entries: &mut VecDeque<Entry>, index: usize, event: &Event) -> u64
+fn merge_at(entries: &mut VecDeque<Entry>, index: usize, event: &Notice<'_>) -> u64
     requires { position (takes event.now) entries.old.items ≡ Some index }
     ensures number { option_map (λ entry. entry.number) (find (takes event.now) entries.old.items)
         ≡ Some result }

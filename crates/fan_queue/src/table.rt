@@ -70,8 +70,8 @@ impl Table {
         Ok(table)
     }
 
-    /// Notes the key of an entry that comes behind all others, if it has one. All keys that were known
-    /// still are, also where this fails.
+    /// Notes the key of an entry that comes behind all others, if it has one; it is known to the caller. All
+    /// keys that were known still are, also where this fails.
     ///
     /// # Errors
     /// `NoMemory` if no memory was found for it.
@@ -80,14 +80,16 @@ impl Table {
         alloc: Global,
         entries: &VecDeque<Entry>,
         entry: &Entry,
+        key: Option<EntryKey>,
     ) -> Result<(), NoMemory>
+        requires key { key ≡ key_of entry.now }
         requires numbered { AreNumbered entry.now.number entries.now.items }
         requires few { entry.now.number ≤ 2 ^ 31 }
         requires known { AreKnown entries.now.items self.old }
         ensures noted { OnOk result (ForSome (key_of entry.now) (λ key. is_known key self.new ≡ true)) }
         ensures kept { AreKnown entries.now.items self.new }
     {
-        let Some(key) = key_of(entry) else {
+        let Some(key) = key else {
             return Ok(());
         };
         let front = front_number(entries, entry.number);

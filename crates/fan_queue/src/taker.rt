@@ -11,25 +11,28 @@ use super::cells::{Cell, tag_of};
 use super::entry::Entry;
 use super::keys::EntryKey;
 use super::table::Table;
-use fan_event::{Event, key_hash};
+use fan_event::Notice;
 use fan_map::Map;
 use std::collections::VecDeque;
 use std::ops::Bound;
 
-// The index of the entry that takes the bits of an event, where the first entry has the number `front`.
+// The index of the entry that takes the bits of an event with the hash `hash`, where the first entry has
+// the number `front`.
 pub(crate) fn taker(
     entries: &VecDeque<Entry>,
     table: &Table,
     front: u64,
-    event: &Event,
+    event: &Notice<'_>,
+    hash: u64,
 ) -> Option<usize>
+    requires hash { hash ≡ key_hash event.now }
     requires queued { AreQueued (front + length entries.now.items) entries.now.items }
     requires known { AreKnown entries.now.items table.now }
     ensures { result ≡ position (takes event.now) entries.now.items }
 {
-    let tag = tag_of(key_hash(event));
+    let tag = tag_of(hash);
     let Some(group) = table.group(tag) else {
-        return taker_spilled(entries, &table.spilled, front, event);
+        return taker_spilled(entries, &table.spilled, front, event, hash);
     };
     if let Some(index) = taker_in_cells(entries, &group.cells, tag, front, event) {
         return Some(index);
@@ -37,7 +40,7 @@ pub(crate) fn taker(
     if group.spilled < front {
         return None;
     }
-    taker_spilled(entries, &table.spilled, front, event)
+    taker_spilled(entries, &table.spilled, front, event, hash)
 }
 
 // The same, if a cell with the tag of the event has its number.
@@ -46,7 +49,7 @@ fn taker_in_cells(
     cells: &[Cell],
     tag: u32,
     front: u64,
-    event: &Event,
+    event: &Notice<'_>,
 ) -> Option<usize>
     requires { AreQueued (front + length entries.now.items) entries.now.items }
     ensures some { IfSome result (λ index. position (takes event.now) entries.now.items ≡ Some index) }
@@ -69,15 +72,16 @@ fn taker_spilled(
     entries: &VecDeque<Entry>,
     spilled: &Map<EntryKey, ()>,
     front: u64,
-    event: &Event,
+    event: &Notice<'_>,
+    hash: u64,
 ) -> Option<usize>
-    requires { AreQueued (front + length entries.now.items) entries.now.items }
+    requires hash { hash ≡ key_hash event.now }
+    requires queued { AreQueued (front + length entries.now.items) entries.now.items }
     ensures some { IfSome result (λ index. position (takes event.now) entries.now.items ≡ Some index) }
     ensures none { IfNone result ((key : EntryKey) → is_noted key spilled.now.entries ≡ true
         → key.hash ≡ key_hash event.now
         → number_takes entries.now.items event.now key.number ≡ false) }
 {
-    let hash = key_hash(event);
     let start = EntryKey { hash, number: 0 };
     for (key, _) in spilled.iter_from(Bound::Included(&start)) {
         if key.hash != hash {
@@ -92,7 +96,7 @@ fn taker_spilled(
 }
 
 // The index of the entry with a number, if it takes the bits of an event.
-fn taker_at(entries: &VecDeque<Entry>, number: u64, front: u64, event: &Event) -> Option<usize>
+fn taker_at(entries: &VecDeque<Entry>, number: u64, front: u64, event: &Notice<'_>) -> Option<usize>
     requires { AreQueued (front + length entries.now.items) entries.now.items }
     ensures some { IfSome result (λ index. position (takes event.now) entries.now.items ≡ Some index) }
     ensures none { IfNone result (number_takes entries.now.items event.now number ≡ false) }

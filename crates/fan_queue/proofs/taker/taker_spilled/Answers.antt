@@ -8,13 +8,13 @@ loop-key-init c =
     walk_init c.args.entries.now.items c.args.event.now c.args.spilled.now.entries
     c.into_iter-key-iterator.result c.iter_from-key-items.ensures.sorted
     (c.into_iter-key-iterator.ensures.into_iter_gives ∙ c.iter_from-key-items.ensures.rest
-    ∙ rw c.key_hash-hash.ensures refl)
+    ∙ rw c.requires.hash refl)
 
 pub loop-key-preserved : goal.loop-key-preserved
 loop-key-preserved c =
     walk_step c.args.entries.now.items c.args.event.now c.args.spilled.now.entries c.loop-key.key-iterator
     c.next.new.self (c.in-Some.key.now, c.in-Some.field-0-1.now) c.loop-key.invariant c.in-Some.ensures.steps
-    (c.if-key-hash.false ∙ c.key_hash-hash.ensures)
+    (c.if-key-hash.false ∙ c.requires.hash)
     (none_found (number_takes c.args.entries.now.items c.args.event.now c.in-Some.key.now.number ≡ false)
     c.taker_at-found.result (sym c.is_some.ensures ∙ c.if-is_some.false) c.taker_at-found.ensures.none)
 
@@ -27,4 +27,4 @@ pub returns-then-key-hash-clause-none : goal.returns-then-key-hash-clause-none
 returns-then-key-hash-clause-none c =
     walk_past c.args.entries.now.items c.args.event.now c.args.spilled.now.entries c.loop-key.key-iterator
     c.next.new.self (c.in-Some.key.now, c.in-Some.field-0-1.now) c.loop-key.invariant c.in-Some.ensures.steps
-    (λ is. c.if-key-hash.true (is ∙ sym c.key_hash-hash.ensures))
+    (λ is. c.if-key-hash.true (is ∙ sym c.requires.hash))

@@ -9,14 +9,14 @@ use Rattle.fan_listener.proofs.StoredLemmas.{asked_below, read-queued, stored-as
 use Rattle.fan_listener.proofs.kept.KeptListener.put_asked.Goals as goal
 
 pub returns-then-self-clause-ok : goal.returns-then-self-clause-ok
-returns-then-self-clause-ok c = rw (← c.self.view_is) (sym (put-closed _ c.args.event c.if-self.true))
+returns-then-self-clause-ok c = rw (← c.self.view_is) (sym (put-closed _ c.args.event.now c.if-self.true))
 
 pub invariant_of-self-in_default : goal.invariant_of-self-in_default
 invariant_of-self-in_default c =
     let outcome = c.in_ok-put.put in
     rw (c.reserve.ensures.same, c.reserve-2.ensures.same)
-    (stored-kept c.self.invariant c.put.new.self
-    (keeps-put c.self.inside.queue c.put.new.self c.args.event outcome c.in_ok-put.ensures.ok
+    (stored-kept c.self.invariant c.put_notice.new.self
+    (keeps-put c.self.inside.queue c.put_notice.new.self c.args.event.now outcome c.in_ok-put.ensures.ok
     (not_queued outcome _ c.in_default.not-Queued)))
 
 pub returns-in_default : goal.returns-in_default
@@ -24,7 +24,7 @@ returns-in_default c =
     let l = c.self.inside in
     record {
       ok = rw (← c.self.view_is, c.reserve.ensures.same, c.reserve-2.ensures.same)
-          (put-queue _ l.queue c.put.new.self c.args.event c.in_ok-put.put c.if-self.false
+          (put-queue _ l.queue c.put_notice.new.self c.args.event.now c.in_ok-put.put c.if-self.false
           c.self.invariant.limited refl refl c.in_ok-put.ensures.ok);
       never_merged = c.in_ok-put.ensures.never_merged c.requires.permission;
       err = tt;
@@ -37,7 +37,7 @@ push_reserved-requires-clause-last c =
 
 pub insert_reserved-requires-clause-absent : goal.insert_reserved-requires-clause-absent
 insert_reserved-requires-clause-absent c =
-    let came = queued_as c.self.inside.queue c.put.new.self c.args.event c.in_ok-put.put c.in-Queued.entry
+    let came = queued_as c.self.inside.queue c.put_notice.new.self c.args.event.now c.in_ok-put.put c.in-Queued.entry
     c.in_ok-put.ensures.ok c.in-Queued.is in
     rw (c.reserve-2.ensures.same, came.0)
     (c.self.invariant.unused c.self.inside.queue.next_entry (omega arith))
@@ -45,8 +45,8 @@ insert_reserved-requires-clause-absent c =
 pub invariant_of-self-2 : goal.invariant_of-self-2
 invariant_of-self-2 c =
     let l = c.self.inside in
-    let event = c.args.event in
-    let came = queued_as l.queue c.put.new.self event c.in_ok-put.put c.in-Queued.entry
+    let event = c.args.event.now in
+    let came = queued_as l.queue c.put_notice.new.self event c.in_ok-put.put c.in-Queued.entry
     c.in_ok-put.ensures.ok c.in-Queued.is in
     rw (
       c.push_reserved.ensures,
@@ -61,8 +61,8 @@ invariant_of-self-2 c =
 pub returns-clause-ok : goal.returns-clause-ok
 returns-clause-ok c =
     let l = c.self.inside in
-    let event = c.args.event in
-    let came = queued_as l.queue c.put.new.self event c.in_ok-put.put c.in-Queued.entry
+    let event = c.args.event.now in
+    let came = queued_as l.queue c.put_notice.new.self event c.in_ok-put.put c.in-Queued.entry
     c.in_ok-put.ensures.ok c.in-Queued.is in
     let pending : filter (is_read l.next_fd) c.push_reserved.new.self.events
     ≡ filter (is_read l.next_fd) l.asked.events =
@@ -73,5 +73,5 @@ returns-clause-ok c =
     (answers_in-insert l.queue.next_entry l.rooms.entries
     (c.self.invariant.unused l.queue.next_entry (omega arith))) in
     rw (← c.self.view_is, pending, answers, ← c.in-Queued.is)
-    (put-queue _ l.queue c.put.new.self event c.in_ok-put.put c.if-self.false
+    (put-queue _ l.queue c.put_notice.new.self event c.in_ok-put.put c.if-self.false
     c.self.invariant.limited refl refl c.in_ok-put.ensures.ok)

@@ -3,10 +3,10 @@ use Rattle.fan_listener.proofs.kept.KeptListener.tell.Goals as goal
 
 pub returns-then-has_fd-clause-moved : goal.returns-then-has_fd-clause-moved
 returns-then-has_fd-clause-moved c =
-    makes-tried c.args.self.now c.put_told.new.self c.args.event c.put_told.result
+    makes-tried c.args.self.now c.put_told.new.self c.args.event.now c.put_told.result
     c.put_told.ensures.ok c.put_told.ensures.err
 
 pub returns-else-has_fd-clause-moved : goal.returns-else-has_fd-clause-moved
 returns-else-has_fd-clause-moved c =
-    makes-tried c.args.self.now c.put_by_handles.new.self c.args.event c.put_by_handles.result
+    makes-tried c.args.self.now c.put_by_handles.new.self c.args.event.now c.put_by_handles.result
     c.put_by_handles.ensures.ok c.put_by_handles.ensures.err
