@@ -148,16 +148,7 @@ impl Listeners for Groups {
     ) -> Result<Put, NoMemory> {
         match index_of(&self.listeners, group) {
             None => Ok(Put::Closed),
-            Some(index) => ask_at(
-                self.alloc,
-                &mut self.listeners,
-                index,
-                happening,
-                name,
-                bits,
-                pid,
-                tid,
-            ),
+            Some(index) => ask_at(&mut self.listeners, index, happening, name, bits, pid, tid),
         }
     }
 
@@ -173,16 +164,7 @@ impl Listeners for Groups {
     ) -> Result<Put, NoMemory> {
         match index_of(&self.listeners, group) {
             None => Ok(Put::Closed),
-            Some(index) => tell_at(
-                self.alloc,
-                &mut self.listeners,
-                index,
-                happening,
-                name,
-                bits,
-                pid,
-                tid,
-            ),
+            Some(index) => tell_at(&mut self.listeners, index, happening, name, bits, pid, tid),
         }
     }
 

@@ -10,10 +10,9 @@ ghost use Rattle.fan_listener.specs.Refusals.{read_errno};
 ghost use Rattle.fan_listener.specs.Responses.{answer_of, closed_of, written};
 
 use fan_bits::{Errno, Happening};
-use fan_event::event_for;
+use fan_event::notice_for;
 use fan_io::NoMemory;
 use fan_listener::{Answer, Answered, Listener, Put, ReadRefused};
-use std::alloc::Global;
 
 /// The index of a group's listener.
 pub(crate) fn index_of(listeners: &[Listener], group: u32) -> Option<usize>
@@ -99,7 +98,6 @@ pub(crate) fn write_at(
 
 /// Puts a permission event on the queue of the listener at an index.
 pub(crate) fn ask_at(
-    alloc: Global,
     listeners: &mut Vec<Listener>,
     index: usize,
     happening: &Happening,
@@ -120,13 +118,12 @@ pub(crate) fn ask_at(
 {
     let listener = &mut listeners[index];
     let init = listener.init();
-    let event = event_for(alloc, init, happening, name, bits, pid, tid, true)?;
-    listener.ask(event)
+    let event = notice_for(init, happening, name, bits, pid, tid, true);
+    listener.ask_notice(&event)
 }
 
 /// Puts an event that needs no answer on the queue of the listener at an index.
 pub(crate) fn tell_at(
-    alloc: Global,
     listeners: &mut Vec<Listener>,
     index: usize,
     happening: &Happening,
@@ -147,8 +144,8 @@ pub(crate) fn tell_at(
 {
     let listener = &mut listeners[index];
     let init = listener.init();
-    let event = event_for(alloc, init, happening, name, bits, pid, tid, false)?;
-    listener.tell(event)
+    let event = notice_for(init, happening, name, bits, pid, tid, false);
+    listener.tell_notice(&event)
 }
 
 /// The answer of the listener at an index to one of its entries. Allocates nothing.
