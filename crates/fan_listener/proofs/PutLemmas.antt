@@ -1,5 +1,5 @@
 -- What a put on a queue makes: one of four outcomes.
-use Rattle.std.proofs.Common.{◌≡◌, ℕ, Bool, true, false, ◌&&◌, cond, find, Option, Some, None, ◌≤◌, refl, ap, sym, subst, ◌∙◌, arith, append-nil}
+use Rattle.std.proofs.Common.{◌≡◌, ℕ, Bool, true, false, not, ◌&&◌, cond, find, Option, Some, None, ◌≤◌, refl, ap, sym, subst, ◌∙◌, arith, append-nil}
 use Rattle.fan_event.specs.declared.event.Event.{Event}
 use Rattle.fan_lists.specs.First.{change_first}
 use Rattle.fan_queue.specs.declared.entry.Body.TheVariants.{Told, Lost}
@@ -160,6 +160,42 @@ none_under (puts.Merged entry) under none = refl
 none_under (puts.Overflow entry) under none = refl
 none_under puts.Closed under none = refl
 
+-- the queue of a listener, by its parts
+pub same_queue : (state : ListenerState) (queue : QueueState) → queue.limit ≡ limit_of state.flags state.limit
+    → queue.entries ≡ state.queue → queue.next_entry ≡ state.next_entry → queue ≡ queue_of state
+same_queue state queue limit entries next =
+    λ i. record { limit = limit i; entries = entries i; next_entry = next i }
+
+-- the same, where these parts are seen as those of the listener
+pub queue_seen : (state seen : ListenerState) (queue : QueueState) → seen ≡ state
+    → queue.limit ≡ limit_of seen.flags seen.limit → queue.entries ≡ seen.queue
+    → queue.next_entry ≡ seen.next_entry → queue ≡ queue_of state
+queue_seen state seen queue is limit entries next =
+    subst (λ (listener : ListenerState). queue ≡ queue_of listener) is (same_queue seen queue limit entries next)
+
+-- a full queue takes no event
+pub full_takes_none : (old new : QueueState) (event : Event) (outcome : Put) → (outcome, new) ≡ put old event
+    → is_full old ≡ true → is_queued outcome ≡ false
+unfolding put
+full_takes_none old new event outcome is full =
+    subst (λ (done : Put × QueueState). is_queued done.0 ≡ false) (sym is)
+    (rw full (lost (find is_lost old.entries)))
+  where
+    lost : (found : Option Entry) → is_queued (put_lost old found).0 ≡ false
+    lost (Some entry) = refl
+    lost None = refl
+
+-- so no event is queued with a descriptor that has none, or comes to a full queue
+pub none_with_fd : (old new : QueueState) (event : Event) (outcome : Put) → (outcome, new) ≡ put old event
+    → (has_fd event.target && not (is_full old)) ≡ false → (is_queued outcome && has_fd event.target) ≡ false
+none_with_fd old new event outcome is none = by (is_full old) refl (has_fd event.target) none
+  where
+    by : (full : Bool) → is_full old ≡ full → (under : Bool) → (under && not full) ≡ false
+        → (is_queued outcome && under) ≡ false
+    by true full under none = rw (full_takes_none old new event outcome is full) refl
+    by false room false none = none_under outcome false refl
+    by false room true none = absurd cc
+
 -- a put to the queue of an open listener is a put to it
 pub put-queue : (state : ListenerState) (old new : QueueState) (event : Event) (outcome : Put)
     → state.closed ≡ false → old.limit ≡ limit_of state.flags state.limit → old.entries ≡ state.queue
@@ -167,7 +203,5 @@ pub put-queue : (state : ListenerState) (old new : QueueState) (event : Event) (
     → (outcome, with_queue state new) ≡ put_to state event
 unfolding put_to
 put-queue state old new event outcome opened limit entries next is =
-    let same : old ≡ queue_of state =
-    λ i. record { limit = limit i; entries = entries i; next_entry = next i } in
-    ap (put_in state) (is ∙ ap (λ queue. put queue event) same)
+    ap (put_in state) (is ∙ ap (λ queue. put queue event) (same_queue state old limit entries next))
     ∙ sym (ap (λ closed. cond closed (puts.Closed, state) (put_in state (put (queue_of state) event))) opened)

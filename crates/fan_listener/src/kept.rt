@@ -1,8 +1,9 @@
 // What the listener of a group keeps: fanotify(7). When a permission event is queued, room is found for
 // all that it needs later, so that no later call needs memory for an answer.
-ghost use Rattle.std.specs.Prelude.{◌≡◌, ◌≢◌, ℕ, ◌+◌, ◌-◌, ◌^◌, ◌<◌, ◌≤◌, true, false, length, Ok, Err, IsOk, IfOk, IfErr, IfNone, IfSome, OnOk, OnErr};
+ghost use Rattle.std.specs.Prelude.{◌≡◌, ◌≢◌, ℕ, ◌+◌, ◌-◌, ◌^◌, ◌<◌, ◌≤◌, true, false, not, ◌&&◌, length, Ok, Err, IsOk, IfOk, IfErr, IfNone, IfSome, OnOk, OnErr};
 ghost use Rattle.fan_listener.specs.ListenerState.{new_listener};
-ghost use Rattle.fan_listener.specs.Queue.{put, limit_of};
+ghost use Rattle.fan_queue.specs.Queue.{is_full};
+ghost use Rattle.fan_listener.specs.Queue.{put, limit_of, queue_of};
 ghost use Rattle.fan_listener.specs.Records.{front_within, has_fd, read_front, read_of, records};
 ghost use Rattle.fan_listener.specs.Refusals.{read_errno, write_errno};
 ghost use Rattle.fan_listener.specs.Responses.{written, answered, waiting_under, answer_of, closed_of};
@@ -125,10 +126,10 @@ impl KeptListener {
         ensures err { OnErr result (self.new ≡ self.old) }
         ensures moved { Makes 1 self.old self.new }
     {
-        if event.has_fd() {
+        if event.has_fd() && !self.is_full() {
             self.put_asked(event)
         } else {
-            self.put_by_handles(event)
+            self.put_without_fd(event)
         }
     }
 
@@ -144,13 +145,21 @@ impl KeptListener {
         if event.has_fd() {
             self.put_told(event)
         } else {
-            self.put_by_handles(event)
+            self.put_without_fd(event)
         }
     }
 
-    // Puts an event on the queue that takes no descriptor.
-    fn put_by_handles(&mut self, event: &Notice<'_>) -> Result<Put, NoMemory>
-        requires handles { has_fd event.now.target ≡ false }
+    // Whether the queue is as long as its limit allows.
+    fn is_full(&self) -> bool
+        ensures { result ≡ is_full (queue_of self.now) }
+    {
+        self.queue.is_full()
+    }
+
+    // Puts an event on the queue that gets no descriptor there: it is reported by handles, or the queue is
+    // full.
+    fn put_without_fd(&mut self, event: &Notice<'_>) -> Result<Put, NoMemory>
+        requires no_fd { (has_fd event.now.target && not (is_full (queue_of self.old))) ≡ false }
         requires entries { self.old.next_entry ≤ 2 ^ 31 }
         ensures ok { IfOk result (λ outcome. (outcome, self.new) ≡ put self.old event.now) }
         ensures never_merged { event.now.perm ≡ true

@@ -84,6 +84,18 @@ impl Queue {
         self.entries.is_empty()
     }
 
+    /// Whether it is as long as its limit allows: then no event is queued or merged, and the lost entry
+    /// stands for each that is put.
+    #[tactic(auto, unfolding(crate::specs::Queue::is_full))]
+    pub fn is_full(&self) -> bool
+        ensures { result ≡ is_full self.now }
+    {
+        match self.limit {
+            Some(limit) => self.entries.len() >= limit as usize,
+            None => false,
+        }
+    }
+
     /// The number of the next entry. The first is 1.
     pub fn next_entry(&self) -> u64
         ensures { result ≡ self.now.next_entry }
@@ -194,17 +206,6 @@ impl Queue {
         let copy = event.to_event(self.alloc)?;
         let entry = self.push(Body::Told(copy), Some(key))?;
         Ok(Put::Queued { entry })
-    }
-
-    // Whether it is as long as its limit allows.
-    #[tactic(auto, unfolding(crate::specs::Queue::is_full))]
-    fn is_full(&self) -> bool
-        ensures { result ≡ is_full self.now }
-    {
-        match self.limit {
-            Some(limit) => self.entries.len() >= limit as usize,
-            None => false,
-        }
     }
 
     // Lets the lost entry stand for an event, and queues it if there is none.

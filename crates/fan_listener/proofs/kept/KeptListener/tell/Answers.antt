@@ -8,5 +8,5 @@ returns-then-has_fd-clause-moved c =
 
 pub returns-else-has_fd-clause-moved : goal.returns-else-has_fd-clause-moved
 returns-else-has_fd-clause-moved c =
-    makes-tried c.args.self.now c.put_by_handles.new.self c.args.event.now c.put_by_handles.result
-    c.put_by_handles.ensures.ok c.put_by_handles.ensures.err
+    makes-tried c.args.self.now c.put_without_fd.new.self c.args.event.now c.put_without_fd.result
+    c.put_without_fd.ensures.ok c.put_without_fd.ensures.err
