@@ -14,6 +14,7 @@ pub mod ObjectEdits
 pub mod Quiet
 pub mod Roots
 pub mod SameMarks
+pub mod Standing
 pub mod TreeEffects
 pub mod TreeNeeds
 pub mod TreeRows

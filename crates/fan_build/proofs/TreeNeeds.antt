@@ -43,7 +43,7 @@ part_told marks depth block digit tree small told object within bound =
     digit_is (told object whole bound)
 
 -- from the chain of no marks no digits lead anywhere
-nothing_at : (digits : List ℕ) → chain_at (Chain []) digits ≡ []
+pub nothing_at : (digits : List ℕ) → chain_at (Chain []) digits ≡ []
 nothing_at [] = refl
 nothing_at (digit ∷ digits) = nothing_at digits
 

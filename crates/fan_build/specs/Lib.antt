@@ -3,4 +3,5 @@ pub mod Effects
 pub mod Needs
 pub mod Parts
 pub mod Publishing
+pub mod Standing
 pub mod Steps

@@ -22,6 +22,8 @@ mod made;
 mod needed;
 mod new_rows;
 mod publish;
+#[cfg(test)]
+mod tests;
 mod writing;
 
 pub use needed::rows_needed;

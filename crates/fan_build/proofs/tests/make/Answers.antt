@@ -1,0 +1,47 @@
+use Rattle.std.proofs.Common.{rules}
+use Rattle.fan_bits.specs.Marks.{changed}
+use Rattle.fan_build.specs.Publishing.{CanPublish}
+use Rattle.fan_build.specs.Standing.{IsPossible, Stands}
+use Rattle.fan_build.proofs.Standing.{can_change, can_publish, stands_after}
+use Rattle.fan_build.proofs.tests.make.Goals as goal
+
+pub rows_needed-needed-requires : goal.rows_needed-needed-requires
+rows_needed-needed-requires g c = (
+  c.requires.0,
+  can_change (g.N.Cells.words c.args.rows.now) (g.N.Cells.rows c.args.rows.now) c.args.root c.requires.0
+      c.requires.1 c.args.change.now (search rules),
+)
+
+pub publish_rows-requires : goal.publish_rows-requires
+publish_rows-requires g c =
+    let words = g.N.Cells.words c.args.rows.now in
+    let rows = g.N.Cells.rows c.args.rows.now in
+    let same_rows = c.rows_needed-needed.ensures.rows in
+    let possible : IsPossible c.args.change.now = search rules in
+    let can = can_change words rows c.args.root c.requires.0 c.requires.1 c.args.change.now possible in (
+      c.requires.0,
+      rw (c.rows_needed-needed.ensures.words, same_rows)
+          (can_publish words rows c.args.root c.requires.0 c.requires.1 c.args.change.now possible
+          c.rows_needed-needed.result c.room.result (c.rows_needed-needed.ensures.number c.requires.0 can)
+          (search rules) (rw same_rows at c.room.ensures)),
+    )
+
+pub returns : goal.returns
+returns g c =
+    let words = g.N.Cells.words c.rows_needed-needed.new.cells in
+    let rows = g.N.Cells.rows c.rows_needed-needed.new.cells in
+    let marks = c.requires.0 in
+    let change = c.args.change.now in
+    let stands : Stands words rows c.args.root marks =
+    rw (c.rows_needed-needed.ensures.words, c.rows_needed-needed.ensures.rows) c.requires.1 in
+    let possible : IsPossible change = search rules in
+    let asks = can_change (g.N.Cells.words c.args.rows.now) (g.N.Cells.rows c.args.rows.now) c.args.root marks
+    c.requires.1 change possible in
+    let can : CanPublish words rows c.args.root marks change = can_publish words rows c.args.root marks stands
+    change possible c.rows_needed-needed.result c.room.result (c.rows_needed-needed.ensures.number marks asks)
+    (search rules) c.room.ensures in (
+      changed marks change,
+      stands_after words rows c.args.root marks stands change possible (g.N.Cells.words c.publish_rows.new.rows)
+          (g.N.Cells.rows c.publish_rows.new.rows) c.publish_rows.result.root
+          (c.publish_rows.ensures.pictures marks can) c.publish_rows.ensures.fresh c.publish_rows.ensures.once,
+    )
