@@ -14,15 +14,17 @@ use Rattle.fan_bits.specs.declared.change.Change.TheVariants.{Put, Flush, Clear,
 use Rattle.fan_bits.specs.declared.mark.Mark.{Mark}
 use Rattle.fan_bits.specs.Marks.{IsChange, IsMarkList, changed, listed, on, order_number, order_of, updated}
 use Rattle.fan_bits.proofs.Updates.{put_mark_keeps}
-use Rattle.fan_rows.specs.Costs.{altered, copied_on, copied_rows, in_either, objects_of, upto}
+use Rattle.fan_rows.specs.Costs.{altered, copied_between, copied_on, copied_rows, in_either, objects_of, upto}
 use Rattle.fan_build.specs.declared.effect.Effect.{Effect}
 use Rattle.fan_build.specs.Edits.{edited, has_any, is_at, is_past, kept}
-use Rattle.fan_build.specs.Needs.{is_within, needed_on, needed_rows, needed_within}
+use Rattle.fan_build.specs.Needs.{is_within, needed_between, needed_on, needed_rows, needed_within}
+use Rattle.fan_build.specs.Objects.{changed_on}
 use Rattle.fan_build.specs.Steps.{IsConnector}
 use Rattle.fan_build.proofs.Blocks.{effect_here}
 use Rattle.fan_build.proofs.ChainNeeds.{Behind, kept_order, none_told}
 use Rattle.fan_build.proofs.ChainSteps.{rest_target}
 use Rattle.fan_build.proofs.ObjectEdits.{IsAtObject, connector_on, edited_on, same_elsewhere}
+use Rattle.fan_build.proofs.Objects.{elsewhere_on, here_on}
 
 -- ---- one object
 
@@ -406,6 +408,14 @@ at_leaf marks change list allowed object at =
     (edited_on marks change list allowed object at)
     (few_for change (on object marks) (connector_on marks list object) (fits_on marks change allowed object))
 
+-- on an object that is left alone nothing is taken
+quiet_object : (marks : List Mark) (object : ℕ) → needed_on (on object marks) (on object marks)
+    ≤ cost_of (on object marks) (on object marks)
+quiet_object marks object =
+    let none : 0 ≡ needed_on (on object marks) (on object marks) =
+    ap (λ (e : Effect). e.taken) (none_told (on object marks)) in
+    omega (arith, none)
+
 leaf_of : (marks : List Mark) (change : Change) → IsMarkList marks → IsChange marks change → (object : ℕ)
     → needed_on (on object marks) (on object (changed marks change))
     ≤ cost_of (on object marks) (on object (changed marks change))
@@ -417,20 +427,42 @@ leaf_of marks (Put group class words at) list allowed object = by (object == at)
     by true is = at_leaf marks (Put group class words at) list allowed object (eqb-true object at is)
     by false is =
         let differs : object ≢ at = λ same. false≢true (sym is ∙ eq-eqb object at same) in
-        let same = same_elsewhere marks (Put group class words at) list object differs in
-        let none : 0 ≡ needed_on (on object marks) (on object marks) =
-        ap (λ (e : Effect). e.taken) (none_told (on object marks)) in
-        subst (λ l. needed_on (on object marks) l ≤ cost_of (on object marks) l) (sym same)
-        (omega (arith, none))
+        subst (λ l. needed_on (on object marks) l ≤ cost_of (on object marks) l)
+        (sym (same_elsewhere marks (Put group class words at) list object differs)) (quiet_object marks object)
 leaf_of marks (Flush group kind) list allowed object =
     at_leaf marks (Flush group kind) list allowed object tt
 leaf_of marks (Clear at) list allowed object = at_leaf marks (Clear at) list allowed object tt
 leaf_of marks (DropGroup group) list allowed object = at_leaf marks (DropGroup group) list allowed object tt
 leaf_of marks (DropObject at) list allowed object = at_leaf marks (DropObject at) list allowed object tt
 
--- a change takes no more rows than it may copy
+leaf_on : (marks : List Mark) (change : Change) (one : ℕ) → IsMarkList marks → IsChange marks change → (object : ℕ)
+    → needed_on (on object marks) (on object (changed_on marks change one))
+    ≤ cost_of (on object marks) (on object (changed_on marks change one))
+leaf_on marks change one list allowed object = by (object == one) refl
+  where
+    by : (b : Bool) → (object == one) ≡ b
+        → needed_on (on object marks) (on object (changed_on marks change one))
+        ≤ cost_of (on object marks) (on object (changed_on marks change one))
+    by true is =
+        let here : on object (changed_on marks change one) ≡ on object (changed marks change) =
+        subst (λ o. on o (changed_on marks change one) ≡ on o (changed marks change))
+        (sym (eqb-true object one is)) (here_on marks change one) in
+        subst (λ l. needed_on (on object marks) l ≤ cost_of (on object marks) l) (sym here)
+        (leaf_of marks change list allowed object)
+    by false is =
+        subst (λ l. needed_on (on object marks) l ≤ cost_of (on object marks) l)
+        (sym (elsewhere_on marks change one object (λ same. false≢true (sym is ∙ eq-eqb object one same))))
+        (quiet_object marks object)
+
+-- a change takes no more rows than it may copy, and so does its part on one object
 pub few_needed : (marks : List Mark) (change : Change) → IsMarkList marks → IsChange marks change
     → needed_rows marks change ≤ copied_rows marks change
-unfolding needed_rows copied_rows
+unfolding needed_between copied_between
 few_needed marks change list allowed =
     all_cost marks (changed marks change) (leaf_of marks change list allowed)
+
+pub few_needed_on : (marks : List Mark) (change : Change) (object : ℕ) → IsMarkList marks → IsChange marks change
+    → needed_between marks (changed_on marks change object) ≤ copied_between marks (changed_on marks change object)
+unfolding needed_between copied_between
+few_needed_on marks change object list allowed =
+    all_cost marks (changed_on marks change object) (leaf_on marks change object list allowed)

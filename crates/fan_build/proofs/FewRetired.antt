@@ -181,7 +181,7 @@ gone_filter p q marks fails =
     by mark in_it false is lost = fails mark is
 
 -- if the marks on all other objects stay, those on one are gone at most
-gone_at : (object : ℕ) (old new : List Mark) → ((other : ℕ) → other ≢ object → on other new ≡ on other old)
+pub gone_at : (object : ℕ) (old new : List Mark) → ((other : ℕ) → other ≢ object → on other new ≡ on other old)
     → length (gone old new) ≤ length (on object old)
 gone_at object old new same =
     filter_less (λ mark. not (list_any (same_mark mark) new)) (λ mark. mark.object == object) old (λ k d within.

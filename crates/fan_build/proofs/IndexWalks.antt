@@ -52,9 +52,9 @@ four_cases P a b c d (suc (suc (suc (suc digit)))) small = absurd (omega arith)
 
 module _ (words : ℕ → Option ℕ) (rows : Rows) (edit : Edit) (low digit row : ℕ) (tree : Tree)
     (before : TreeBefore words rows edit (suc low) digit row tree)
-    (comes : goes edit.only row (suc low) digit ≡ true) where
-  test : goes edit.only (top tree) (suc low) digit ≡ true
-  test = subst (λ r. goes edit.only r (suc low) digit ≡ true) (sym before.top_is) comes
+    (comes : goes edit.scope row (suc low) digit ≡ true) where
+  test : goes edit.scope (top tree) (suc low) digit ≡ true
+  test = subst (λ r. goes edit.scope r (suc low) digit ≡ true) (sym before.top_is) comes
 
   abbrev eff : ℕ → Effect
   eff k = tree_effect edit low k (child tree k)

@@ -11,9 +11,11 @@ pub mod Growing
 pub mod IndexSteps
 pub mod IndexWalks
 pub mod ObjectEdits
+pub mod Objects
 pub mod Quiet
 pub mod Roots
 pub mod SameMarks
+pub mod Scopes
 pub mod Standing
 pub mod TreeEffects
 pub mod TreeNeeds

@@ -57,7 +57,7 @@ joined_quiet all first second third fourth none =
 
 pub tree_quiet : (edit : Edit) (depth digit : ℕ) (tree : Tree) → IsQuiet (tree_effect edit depth digit tree)
 tree_quiet edit zero digit tree =
-    cond_both (goes edit.only (top tree) 0 digit) (chain_effect edit.change (marks_in (links_of tree)))
+    cond_both (goes edit.scope (top tree) 0 digit) (chain_effect edit.change (marks_in (links_of tree)))
     (no_effect (not (top tree == 0))) IsQuiet
     (λ comes. chain_quiet edit.change (marks_in (links_of tree))) (λ stay none. refl)
 tree_quiet edit (suc depth) digit tree =
@@ -67,7 +67,7 @@ tree_quiet edit (suc depth) digit tree =
       third = tree_effect edit depth 2 (child tree 2);
       fourth = tree_effect edit depth 3 (child tree 3);
     } in
-    cond_both (goes edit.only (top tree) (suc depth) digit) (joined all) (no_effect (not (top tree == 0)))
+    cond_both (goes edit.scope (top tree) (suc depth) digit) (joined all) (no_effect (not (top tree == 0)))
     IsQuiet
     (λ comes. joined_quiet all (tree_quiet edit depth 0 (child tree 0))
     (tree_quiet edit depth 1 (child tree 1))

@@ -13,10 +13,12 @@ use Rattle.fan_bits.proofs.Updates.{mark_of_is, put_mark_is}
 use Rattle.fan_rows.specs.Rows.{Rows, times}
 use Rattle.fan_rows.specs.Trees.{Chain, Pictures, digits, marks_in, rows_of}
 use Rattle.fan_rows.proofs.Chains.{times_append}
-use Rattle.fan_build.specs.Needs.{needed_rows}
-use Rattle.fan_build.specs.Publishing.{CanChange, CanPublish, Reaches, Wrote, given_since, retired_since}
+use Rattle.fan_build.specs.Needs.{needed_between}
+use Rattle.fan_build.specs.Objects.{changed_on}
+use Rattle.fan_build.specs.Publishing.{CanChange, CanMake, Reaches, Wrote, given_since, retired_since}
 use Rattle.fan_build.specs.Standing.{IsPossible, Stands, numbers, rows_at}
 use Rattle.fan_build.proofs.IndexSteps.{no_tree}
+use Rattle.fan_build.proofs.Objects.{changed_on_all_of, changed_on_keeps_list}
 use Rattle.fan_build.proofs.TreeNeeds.{nothing_at}
 
 -- a mark is of class FAN_CLASS_NOTIF
@@ -136,26 +138,22 @@ module _ (words : ℕ → Option ℕ) (rows : Rows) (root : ℕ) (marks : List M
     allowed = allowed marks change stands_now.class possible;
   }
 
-  pub can_publish : (needed room : ℕ) → needed ≡ needed_rows marks change → needed ≤ room
-      → room ≡ length rows.free → CanPublish words rows root marks change
-  can_publish needed room number fits count = record {
+  pub can_make : (new : List Mark) (needed room : ℕ) → needed ≡ needed_between marks new → needed ≤ room
+      → room ≡ length rows.free → CanMake words rows root marks change new
+  can_make new needed room number fits count = record {
     possible = can_change;
     enough = omega (arith, number, fits, count);
     apart = stands_now.apart;
   }
 
   -- and stand after it
-  pub stands_after : (later : ℕ → Option ℕ) (after : Rows) (end : ℕ)
-      → Pictures later end (changed marks change) → Wrote words later rows after
-      → ((before last : List ℕ) → Reaches words root before → Reaches later end last → (row : ℕ)
+  module _ (later : ℕ → Option ℕ) (after : Rows) (end : ℕ) (wrote : Wrote words later rows after)
+      (once : (before last : List ℕ) → Reaches words root before → Reaches later end last → (row : ℕ)
       → times row before + times row (given_since rows after)
-      ≡ times row last + times row (retired_since rows after))
-      → Stands later after end (changed marks change)
-  stands_after later after end pictured wrote once = record {
-    pictured = pictured;
-    list = changed_keeps_list marks change can_change.allowed stands_now.list;
-    class = class_after marks change stands_now.list stands_now.class possible;
-    apart = λ last reaches row.
+      ≡ times row last + times row (retired_since rows after)) where
+    apart_after : (last : List ℕ) → Reaches later end last
+        → (row : ℕ) → times row last + times row after.free + times row after.retired ≤ 1
+    apart_after last reaches row =
         let tree = stands_now.pictured.0 in
         let by = stands_now.pictured.1 in
         let start : Reaches words root (rows_of tree) = (tree, by.lies, by.root_is, refl) in
@@ -167,5 +165,23 @@ module _ (words : ℕ → Option ℕ) (rows : Rows) (root : ℕ) (marks : List M
           wrote.from_free row,
           once (rows_of tree) last start reaches row,
           stands_now.apart (rows_of tree) start row,
-        );
-  }
+        )
+
+    pub stands_after : Pictures later end (changed marks change)
+        → Stands later after end (changed marks change)
+    stands_after pictured = record {
+      pictured = pictured;
+      list = changed_keeps_list marks change can_change.allowed stands_now.list;
+      class = class_after marks change stands_now.list stands_now.class possible;
+      apart = apart_after;
+    }
+
+    pub stands_after_on : (object : ℕ) → Pictures later end (changed_on marks change object)
+        → Stands later after end (changed_on marks change object)
+    stands_after_on object pictured = record {
+      pictured = pictured;
+      list = changed_on_keeps_list marks change object stands_now.list can_change.allowed;
+      class = changed_on_all_of marks change object IsNotif stands_now.class
+          (class_after marks change stands_now.list stands_now.class possible);
+      apart = apart_after;
+    }

@@ -58,7 +58,7 @@ tree_few words edit zero digit tree lies =
     length-map (links_of tree) (λ link. link.mark) in
     let all = small edit.change (marks_in (links_of tree)) in
     let behind = few words (links_of tree) chain.0 in
-    cond_both (goes edit.only (top tree) 0 digit) (chain_effect edit.change (marks_in (links_of tree)))
+    cond_both (goes edit.scope (top tree) 0 digit) (chain_effect edit.change (marks_in (links_of tree)))
     (no_effect (not (top tree == 0))) (IsFew 0)
     (λ comes. record { taken = omega (arith, all.taken); retired = omega (arith, all.retired) })
     (λ stays. none_few 0 (not (top tree == 0)))
@@ -70,7 +70,7 @@ tree_few words edit (suc depth) digit tree lies =
       third = tree_effect edit depth 2 (child tree 2);
       fourth = tree_effect edit depth 3 (child tree 3);
     } in
-    cond_both (goes edit.only (top tree) (suc depth) digit) (joined all) (no_effect (not (top tree == 0)))
+    cond_both (goes edit.scope (top tree) (suc depth) digit) (joined all) (no_effect (not (top tree == 0)))
     (IsFew (suc depth))
     (λ comes. joined_few depth all (one 0) (one 1) (one 2) (one 3))
     (λ stays. none_few (suc depth) (not (top tree == 0)))
@@ -88,7 +88,7 @@ four_few depth all small first second third fourth =
 
 -- where a change comes, the effect on a tree is that on the trees below, and else there is none
 pub effect_deep : (edit : Edit) (depth digit : ℕ) (tree : Tree) → depth ≢ 0
-    → goes edit.only (top tree) depth digit ≡ true → joined (record {
+    → goes edit.scope (top tree) depth digit ≡ true → joined (record {
       first = tree_effect edit (depth - 1) 0 (child tree 0);
       second = tree_effect edit (depth - 1) 1 (child tree 1);
       third = tree_effect edit (depth - 1) 2 (child tree 2);
@@ -97,15 +97,15 @@ pub effect_deep : (edit : Edit) (depth digit : ℕ) (tree : Tree) → depth ≢ 
 effect_deep edit depth digit tree some comes =
     by (depth - 1) depth (one_more depth some) comes
   where
-    by : (low high : ℕ) → high ≡ suc low → goes edit.only (top tree) high digit ≡ true → joined (record {
+    by : (low high : ℕ) → high ≡ suc low → goes edit.scope (top tree) high digit ≡ true → joined (record {
       first = tree_effect edit low 0 (child tree 0);
       second = tree_effect edit low 1 (child tree 1);
       third = tree_effect edit low 2 (child tree 2);
       fourth = tree_effect edit low 3 (child tree 3);
     }) ≡ tree_effect edit high digit tree
     by low high is here =
-        let test : goes edit.only (top tree) (suc low) digit ≡ true =
-        subst (λ n. goes edit.only (top tree) n digit ≡ true) is here in
+        let test : goes edit.scope (top tree) (suc low) digit ≡ true =
+        subst (λ n. goes edit.scope (top tree) n digit ≡ true) is here in
         subst (λ n. joined (record {
           first = tree_effect edit low 0 (child tree 0);
           second = tree_effect edit low 1 (child tree 1);
@@ -114,13 +114,13 @@ effect_deep edit depth digit tree some comes =
         }) ≡ tree_effect edit n digit tree) (sym is) (rw test refl)
 
 pub effect_flat : (edit : Edit) (depth digit : ℕ) (tree : Tree) → depth ≡ 0
-    → goes edit.only (top tree) depth digit ≡ true
+    → goes edit.scope (top tree) depth digit ≡ true
     → chain_effect edit.change (marks_in (links_of tree)) ≡ tree_effect edit depth digit tree
 effect_flat edit zero digit tree none comes = rw comes refl
 effect_flat edit (suc depth) digit tree none comes = absurd (omega arith)
 
 pub effect_none : (edit : Edit) (depth digit : ℕ) (tree : Tree)
-    → goes edit.only (top tree) depth digit ≡ false
+    → goes edit.scope (top tree) depth digit ≡ false
     → no_effect (not (top tree == 0)) ≡ tree_effect edit depth digit tree
 effect_none edit zero digit tree stays = rw stays refl
 effect_none edit (suc depth) digit tree stays = rw stays refl
@@ -157,7 +157,7 @@ module _ (words : ℕ → Option ℕ) (edit : Edit) (depth : ℕ) (tree : Tree) 
       (subst (IsFew (depth - 1)) (sym (four.three (child tree 2) (child_lies 2) are.third_is)) (one 2))
       (subst (IsFew (depth - 1)) (sym (four.four (child tree 3) (child_lies 3) are.fourth_is)) (one 3))
 
-  pub joined_is : (digit : ℕ) → goes edit.only (top tree) depth digit ≡ true
+  pub joined_is : (digit : ℕ) → goes edit.scope (top tree) depth digit ≡ true
       → joined all ≡ tree_effect edit depth digit tree
   joined_is digit comes =
       let first = four.one (child tree 0) (child_lies 0) are.first_is in

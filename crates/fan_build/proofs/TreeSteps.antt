@@ -22,7 +22,7 @@ use Rattle.fan_build.proofs.TreeEffects.{effect_flat, effect_none}
 -- ---- where a change does not come
 
 -- a tree is itself with the change not made
-pub unedited : (edit : Edit) (depth digit : ℕ) (tree : Tree) → goes edit.only (top tree) depth digit ≡ false
+pub unedited : (edit : Edit) (depth digit : ℕ) (tree : Tree) → goes edit.scope (top tree) depth digit ≡ false
     → IsEdited edit depth digit tree tree
 unedited edit zero digit tree stays =
     (λ comes. absurd (false≢true (sym stays ∙ comes)), λ no. refl)
@@ -30,11 +30,11 @@ unedited edit (suc depth) digit tree stays =
     (λ comes. absurd (false≢true (sym stays ∙ comes)), λ no. refl)
 
 pub tree_same : (words : ℕ → Option ℕ) (rows : Rows) (edit : Edit) (depth digit row : ℕ) (tree : Tree)
-    → TreeBefore words rows edit depth digit row tree → goes edit.only row depth digit ≡ false
+    → TreeBefore words rows edit depth digit row tree → goes edit.scope row depth digit ≡ false
     → TreeMade words words rows rows edit depth digit tree
     (record { row = row; altered = false; marks = 0; rows = 0 })
 tree_same words rows edit depth digit row tree before stays =
-    let test = subst (λ r. goes edit.only r depth digit ≡ false) (sym before.top_is) stays in
+    let test = subst (λ r. goes edit.scope r depth digit ≡ false) (sym before.top_is) stays in
     let none : no_effect (not (top tree == 0)) ≡ tree_effect edit depth digit tree =
     effect_none edit depth digit tree test in
     record {
@@ -103,11 +103,11 @@ chain_left change (mark ∷ marks) =
     (is_past change mark) refl
 
 pub flat_before : (words : ℕ → Option ℕ) (rows : Rows) (edit : Edit) (depth digit row : ℕ) (tree : Tree)
-    → TreeBefore words rows edit depth digit row tree → depth ≡ 0 → goes edit.only row depth digit ≡ true
+    → TreeBefore words rows edit depth digit row tree → depth ≡ 0 → goes edit.scope row depth digit ≡ true
     → ChainBefore words rows row (links_of tree) (edited edit.change (marks_in (links_of tree)))
     (chain_effect edit.change (marks_in (links_of tree)))
 flat_before words rows edit zero digit row (Chain links) before none comes =
-    let test = subst (λ r. goes edit.only r 0 digit ≡ true) (sym before.top_is) comes in
+    let test = subst (λ r. goes edit.scope r 0 digit ≡ true) (sym before.top_is) comes in
     record {
       chain = before.lies;
       first = before.top_is;
@@ -120,12 +120,12 @@ flat_before words rows edit (suc depth) digit row tree before none comes = absur
 
 pub flat_made : (words later : ℕ → Option ℕ) (rows after : Rows) (edit : Edit) (depth digit row : ℕ)
     (tree : Tree) (made : Made) → TreeBefore words rows edit depth digit row tree → depth ≡ 0
-    → goes edit.only row depth digit ≡ true
+    → goes edit.scope row depth digit ≡ true
     → ChainMade words later rows after (links_of tree) (edited edit.change (marks_in (links_of tree)))
     (chain_effect edit.change (marks_in (links_of tree))) made
     → TreeMade words later rows after edit depth digit tree made
 flat_made words later rows after edit zero digit row (Chain links) made before none comes is =
-    let test = subst (λ r. goes edit.only r 0 digit ≡ true) (sym before.top_is) comes in
+    let test = subst (λ r. goes edit.scope r 0 digit ≡ true) (sym before.top_is) comes in
     let effect : chain_effect edit.change (marks_in links) ≡ tree_effect edit 0 digit (Chain links) =
     effect_flat edit 0 digit (Chain links) refl test in
     record {

@@ -4,20 +4,40 @@ use Rattle.fan_bits.specs.declared.change.Change.{Change}
 use Rattle.fan_bits.specs.declared.change.Change.TheVariants.{Put, Flush, Clear, DropGroup, DropObject}
 use Rattle.fan_bits.specs.declared.mark.Mark.{Mark}
 use Rattle.fan_bits.specs.Marks.{listed, order_number, order_of, same_kind, same_mark, standing, updated}
+use Rattle.fan_build.specs.declared.edit.Edit.{Edit}
+use Rattle.fan_build.specs.declared.edit.Scope.{Scope}
+use Rattle.fan_build.specs.declared.edit.Scope.TheVariants.{Everywhere, Object, Nowhere}
 use Rattle.fan_build.specs.declared.effect.Effect.{Effect}
 
--- the object on which alone a change is made, if there is one
-abbrev pub only_object : Change → Option ℕ
-only_object (Put group class words object) = Some object
-only_object (Flush group kind) = None
-only_object (Clear object) = Some object
-only_object (DropGroup group) = None
-only_object (DropObject object) = Some object
+-- one object; a number above 65,535 is none of an object
+abbrev pub scope_at : ℕ → Scope
+scope_at object = if nat_lt 65535 object then Nowhere else Object object
+
+-- the objects on which a change is made
+abbrev pub scope_of : Change → Scope
+scope_of (Put group class words object) = scope_at object
+scope_of (Flush group kind) = Everywhere
+scope_of (Clear object) = scope_at object
+scope_of (DropGroup group) = Everywhere
+scope_of (DropObject object) = scope_at object
+
+-- an object, if a change may be made on it: a Put is made on its own
+abbrev pub scope_on : Change → ℕ → Scope
+scope_on (Put group class words own) object = if own == object then scope_at object else Nowhere
+scope_on _ object = scope_at object
+
+-- a change where it is made, and its part on one object
+abbrev pub edit_of : Change → Edit
+edit_of change = record { change = change; scope = scope_of change }
+
+abbrev pub edit_on : Change → ℕ → Edit
+edit_on change object = record { change = change; scope = scope_on change object }
 
 -- a change goes down to a row that stands for a digit, with so many index rows below
-abbrev pub goes : Option ℕ → ℕ → ℕ → ℕ → Bool
-goes (Some object) row depth digit = object / 4 ^ depth % 4 == digit
-goes None row depth digit = not (row == 0)
+abbrev pub goes : Scope → ℕ → ℕ → ℕ → Bool
+goes Everywhere row depth digit = not (row == 0)
+goes (Object object) row depth digit = object / 4 ^ depth % 4 == digit
+goes Nowhere row depth digit = false
 
 -- a mark is the one on which bits are put
 abbrev pub is_at : Change → Mark → Bool

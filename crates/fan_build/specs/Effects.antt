@@ -22,10 +22,10 @@ joined all =
 -- the effect on a tree that stands for a digit, with so many index rows above its chains
 abbrev pub tree_effect : Edit → ℕ → ℕ → Tree → Effect
 tree_effect edit zero digit tree =
-    if goes edit.only (top tree) 0 digit then chain_effect edit.change (marks_in (links_of tree))
+    if goes edit.scope (top tree) 0 digit then chain_effect edit.change (marks_in (links_of tree))
     else no_effect (not (top tree == 0))
 tree_effect edit (suc depth) digit tree =
-    if goes edit.only (top tree) (suc depth) digit
+    if goes edit.scope (top tree) (suc depth) digit
     then joined (record {
       first = tree_effect edit depth 0 (child tree 0);
       second = tree_effect edit depth 1 (child tree 1);
@@ -37,10 +37,10 @@ tree_effect edit (suc depth) digit tree =
 -- a tree is another one with the change made of the chains to which it comes
 abbrev pub IsEdited : Edit → ℕ → ℕ → Tree → Tree → Type 0
 IsEdited edit zero digit tree new =
-    (goes edit.only (top tree) 0 digit ≡ true
+    (goes edit.scope (top tree) 0 digit ≡ true
     → marks_in (links_of new) ≡ edited edit.change (marks_in (links_of tree)))
-    × (goes edit.only (top tree) 0 digit ≡ false → new ≡ tree)
+    × (goes edit.scope (top tree) 0 digit ≡ false → new ≡ tree)
 IsEdited edit (suc depth) digit tree new =
-    (goes edit.only (top tree) (suc depth) digit ≡ true
+    (goes edit.scope (top tree) (suc depth) digit ≡ true
     → (one : ℕ) → one < 4 → IsEdited edit depth one (child tree one) (child new one))
-    × (goes edit.only (top tree) (suc depth) digit ≡ false → new ≡ tree)
+    × (goes edit.scope (top tree) (suc depth) digit ≡ false → new ≡ tree)

@@ -1,6 +1,8 @@
+pub mod Building
 pub mod Edits
 pub mod Effects
 pub mod Needs
+pub mod Objects
 pub mod Parts
 pub mod Publishing
 pub mod Standing

@@ -27,6 +27,10 @@ needed_within old new (suc depth) block =
     + (if list_any (is_within (suc depth) block) (altered old new) && list_any (is_within (suc depth) block) new
     then 1 else 0)
 
+-- the rows that are taken where one list of marks becomes another
+unfoldable pub needed_between : List Mark → List Mark → ℕ
+needed_between old new = needed_within old new 8 0
+
 -- the rows that a change takes
-unfoldable pub needed_rows : List Mark → Change → ℕ
-needed_rows marks change = needed_within marks (changed marks change) 8 0
+abbrev pub needed_rows : List Mark → Change → ℕ
+needed_rows marks change = needed_between marks (changed marks change)

@@ -2,10 +2,11 @@
 use Rattle.std.specs.Prelude.{◌≡◌, ℕ, ◌+◌, ◌*◌, ◌<◌, ◌≤◌, List, ◌++◌, Option, drop, length}
 use Rattle.fan_bits.specs.declared.change.Change.{Change}
 use Rattle.fan_bits.specs.declared.mark.Mark.{Mark}
-use Rattle.fan_bits.specs.Marks.{IsChange, IsMarkList}
+use Rattle.fan_bits.specs.Marks.{IsChange, IsMarkList, changed}
 use Rattle.fan_rows.specs.Rows.{Rows, times}
 use Rattle.fan_rows.specs.Trees.{Lies, Pictures, Tree, rows_of, top}
-use Rattle.fan_build.specs.Needs.{needed_rows}
+use Rattle.fan_build.specs.Needs.{needed_between}
+use Rattle.fan_build.specs.Objects.{changed_on}
 
 -- the rows that are reached from a root, each as often as it is; there is one such list at most
 abbrev pub Reaches : (ℕ → Option ℕ) → ℕ → List ℕ → Type 0
@@ -18,14 +19,23 @@ pub record CanChange (words : ℕ → Option ℕ) (root : ℕ) (marks : List Mar
   pub list : IsMarkList marks
   pub allowed : IsChange marks change
 
--- and the rows that it takes are free; no row is in two of the rows that are reached, those that are free and
--- those that were given up, or twice in one
-pub record CanPublish (words : ℕ → Option ℕ) (rows : Rows) (root : ℕ) (marks : List Mark) (change : Change)
-    : Type 0 where
+-- and the rows that are taken for the list after it are free; no row is in two of the rows that are reached,
+-- those that are free and those that were given up, or twice in one
+pub record CanMake (words : ℕ → Option ℕ) (rows : Rows) (root : ℕ) (marks : List Mark) (change : Change)
+    (after : List Mark) : Type 0 where
   pub possible : CanChange words root marks change
-  pub enough : needed_rows marks change ≤ length rows.free
+  pub enough : needed_between marks after ≤ length rows.free
   pub apart : (reached : List ℕ) → Reaches words root reached
       → (row : ℕ) → times row reached + times row rows.free + times row rows.retired ≤ 1
+
+-- a change can be made
+abbrev pub CanPublish : (ℕ → Option ℕ) → Rows → ℕ → List Mark → Change → Type 0
+CanPublish words rows root marks change = CanMake words rows root marks change (changed marks change)
+
+-- a change can be made on one object
+abbrev pub CanPublishOn : (ℕ → Option ℕ) → Rows → ℕ → List Mark → Change → ℕ → Type 0
+CanPublishOn words rows root marks change object =
+    CanMake words rows root marks change (changed_on marks change object)
 
 -- the rows that were given out in between
 abbrev pub given_since : Rows → Rows → List ℕ

@@ -153,9 +153,9 @@ pub record AreBelow (tree : Tree) (below : Below) : Type 0 where
 -- the chains to which a change comes can become what it makes of them
 abbrev pub CanBe : Edit → ℕ → ℕ → Tree → Type 0
 CanBe edit zero digit tree =
-    goes edit.only (top tree) 0 digit ≡ true → IsConnector (edited edit.change (marks_in (links_of tree)))
+    goes edit.scope (top tree) 0 digit ≡ true → IsConnector (edited edit.change (marks_in (links_of tree)))
 CanBe edit (suc depth) digit tree =
-    goes edit.only (top tree) (suc depth) digit ≡ true
+    goes edit.scope (top tree) (suc depth) digit ≡ true
     → (one : ℕ) → one < 4 → CanBe edit depth one (child tree one)
 
 -- a tree that lies at a row and stands for a digit, with so many index rows above its chains, can be changed

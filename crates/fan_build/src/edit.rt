@@ -1,41 +1,82 @@
 // What a change makes of one mark, and down which index rows it goes.
 ghost use Rattle.std.specs.Prelude.{◌≡◌, ◌≤◌, Some, None, if◌then◌else◌};
-ghost use Rattle.fan_build.specs.Edits.{cleared_mark, goes, is_at, is_past, kept, only_object, stays};
+ghost use Rattle.fan_build.specs.Edits.{cleared_mark, edit_of, edit_on, goes, is_at, is_past, kept, scope_at, stays};
 
 use fan_bits::{Change, Mark, Order, updated};
 
-/// A change, and the object on which alone it is made, if there is one.
+// The greatest number of an object.
+const LAST_OBJECT: u32 = 65_535;
+
+/// The objects on which a change is made.
+#[derive(Clone, Copy)]
+pub(crate) enum Scope {
+    /// All that have a mark.
+    Everywhere,
+    /// One, of a number that an object can have.
+    Object(u32),
+    /// None.
+    Nowhere,
+}
+
+impl Scope {
+    // One object, if it can have the number.
+    fn at(object: u32) -> Scope
+        ensures { result ≡ scope_at object }
+    {
+        if object > LAST_OBJECT {
+            Scope::Nowhere
+        } else {
+            Scope::Object(object)
+        }
+    }
+}
+
+/// A change, and the objects on which it is made.
 #[derive(Clone, Copy)]
 pub(crate) struct Edit {
     pub(crate) change: Change,
-    pub(crate) only: Option<u32>,
+    pub(crate) scope: Scope,
 }
 
 impl Edit {
     /// A change where it alters marks.
     pub(crate) fn of(change: &Change) -> Edit
-        ensures change { result.change ≡ change.now }
-        ensures only { result.only ≡ only_object change.now }
+        ensures { result ≡ edit_of change.now }
     {
-        let only = match *change {
+        let scope = match *change {
             Change::Put { object, .. } | Change::Clear { object } | Change::DropObject { object } =>
-                Some(object),
-            Change::Flush { .. } | Change::DropGroup { .. } => None,
+                Scope::at(object),
+            Change::Flush { .. } | Change::DropGroup { .. } => Scope::Everywhere,
         };
         Edit {
             change: *change,
-            only,
+            scope,
+        }
+    }
+
+    /// The part of a change on one object.
+    pub(crate) fn on(change: &Change, object: u32) -> Edit
+        ensures { result ≡ edit_on change.now object }
+    {
+        let scope = match *change {
+            Change::Put { object: own, .. } if own != object => Scope::Nowhere,
+            _ => Scope::at(object),
+        };
+        Edit {
+            change: *change,
+            scope,
         }
     }
 
     /// Whether it goes down to a row that stands for a digit, with so many index rows below.
     pub(crate) fn goes(&self, row: u64, depth: u32, digit: u32) -> bool
         requires { depth ≤ 8 }
-        ensures { result ≡ goes self.now.only row depth digit }
+        ensures { result ≡ goes self.now.scope row depth digit }
     {
-        match self.only {
-            Some(object) => object / 4u32.pow(depth) % 4 == digit,
-            None => row != 0,
+        match self.scope {
+            Scope::Everywhere => row != 0,
+            Scope::Object(object) => object / 4u32.pow(depth) % 4 == digit,
+            Scope::Nowhere => false,
         }
     }
 }

@@ -9,6 +9,10 @@
 //! let connectors = RowConnectors::new(rows, built.root); // the marks after the change
 //! ```
 //!
+//! A change of many objects can also be made object by object, with `rows_needed_on` and
+//! `publish_on`, so that the marks on other objects need not be walked; `object_by_object` says that
+//! the list is then the changed one.
+//!
 //! How many rows a change takes, and what it leaves of the rows that were reached, is defined in
 //! `specs/`.
 #![tactic(auto)]
@@ -18,6 +22,7 @@ mod chain;
 mod edit;
 mod effect;
 mod index;
+mod laws;
 mod made;
 mod needed;
 mod new_rows;
@@ -26,6 +31,7 @@ mod publish;
 mod tests;
 mod writing;
 
-pub use needed::rows_needed;
+pub use laws::object_by_object;
+pub use needed::{rows_needed, rows_needed_on};
 pub use new_rows::NewRows;
-pub use publish::{Built, publish_rows};
+pub use publish::{Built, publish_on, publish_rows};

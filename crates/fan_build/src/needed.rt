@@ -1,11 +1,12 @@
 // How many rows a change takes.
 ghost use Rattle.std.specs.Prelude.{◌≡◌, ◌≤◌, ◌<◌, ◌^◌, ℕ, List};
 ghost use Rattle.fan_bits.specs.declared.mark.Mark.{Mark};
-ghost use Rattle.fan_rows.specs.Costs.{copied_rows};
+ghost use Rattle.fan_rows.specs.Costs.{copied_between, copied_rows};
 ghost use Rattle.fan_rows.specs.Trees.{IsChain, Lies, Link, Tree, first_row, marks_in, top};
 ghost use Rattle.fan_build.specs.Edits.{chain_effect};
 ghost use Rattle.fan_build.specs.Effects.{tree_effect};
-ghost use Rattle.fan_build.specs.Needs.{needed_rows};
+ghost use Rattle.fan_build.specs.Needs.{needed_between, needed_rows};
+ghost use Rattle.fan_build.specs.Objects.{changed_on};
 ghost use Rattle.fan_build.specs.Publishing.{CanChange};
 
 use super::below::rows_below;
@@ -25,7 +26,33 @@ pub fn rows_needed<C: Cells>(cells: &mut C, root: u64, change: &Change) -> u64
     ensures rows { C.rows cells.new ≡ C.rows cells.old }
 {
     let edit = Edit::of(change);
-    needed_below(cells, root, 0, 8, &edit).taken
+    needed(cells, root, &edit)
+}
+
+/// How many free rows `publish_on` will take for a change on one object. Changes nothing, and takes
+/// no memory.
+pub fn rows_needed_on<C: Cells>(cells: &mut C, root: u64, change: &Change, object: u32) -> u64
+    requires { (marks : List Mark) × CanChange (C.words cells.old) root marks change.now }
+    ensures number { (marks : List Mark) → CanChange (C.words cells.old) root marks change.now
+        → result ≡ needed_between marks (changed_on marks change.now object) }
+    ensures most { (marks : List Mark) → CanChange (C.words cells.old) root marks change.now
+        → result ≤ copied_between marks (changed_on marks change.now object) }
+    ensures words { C.words cells.new ≡ C.words cells.old }
+    ensures rows { C.rows cells.new ≡ C.rows cells.old }
+{
+    let edit = Edit::on(change, object);
+    needed(cells, root, &edit)
+}
+
+// How many rows an edit takes.
+fn needed<C: Cells>(cells: &mut C, root: u64, edit: &Edit) -> u64
+    requires { (tree : Tree) × Lies (C.words cells.old) tree 8 × (top tree ≡ root) }
+    ensures number { (tree : Tree) → Lies (C.words cells.old) tree 8 → top tree ≡ root
+        → result ≡ (tree_effect edit.now 8 0 tree).taken }
+    ensures words { C.words cells.new ≡ C.words cells.old }
+    ensures rows { C.rows cells.new ≡ C.rows cells.old }
+{
+    needed_below(cells, root, 0, 8, edit).taken
 }
 
 // What a change does below a row that stands for a digit, with so many index rows below.

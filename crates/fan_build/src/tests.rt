@@ -129,11 +129,30 @@ fn make<N: Counted>(rt: &impl Abort, rows: &mut N, root: u64, change: &Change) -
     (needed, publish_rows(rows, root, change))
 }
 
+// Makes its part on one object.
+fn make_on<N: Counted>(
+    rt: &impl Abort,
+    rows: &mut N,
+    root: u64,
+    change: &Change,
+    object: u32,
+) -> (u64, Built)
+    requires { (marks : List Mark) × Stands (N.words rows.old) (N.rows rows.old) root marks }
+    ensures { (marks : List Mark)
+        × Stands (N.words rows.new) (N.rows rows.new) result.1.root marks }
+{
+    assert!(rt; is_possible(change), "{change:?}");
+    let needed = rows_needed_on(rows, root, change, object);
+    assert!(rt; needed <= rows.room(), "{needed}");
+    (needed, publish_on(rows, root, change, object))
+}
+
 // A line is a history, ' =', and for each of its changes the rows that it needs, the marks and the
 // rows that it retires. A word a, b, i, s or r with GROUP.OBJECT adds FAN_OPEN or FAN_ACCESS to a
 // mask, FAN_MODIFY to an ignored set, or to one that survives, or removes FAN_OPEN; m adds on a
-// mount. f.GROUP flushes the marks on inodes, c.OBJECT clears, g.GROUP and o.OBJECT drop. Behind
-// the numbers stands '-' where no mark is left, and '=' where the root stays.
+// mount. f.GROUP flushes the marks on inodes, c.OBJECT clears, g.GROUP and o.OBJECT drop. With
+// @OBJECT behind it a change is made on that object alone. Behind the numbers stands '-' where no
+// mark is left, and '=' where the root stays.
 const HISTORIES: &str = "\
 a.1.4 r.1.4 = 9.0.0 0.1.9-
 a.1.4 a.2.4 = 9.0.0 10.0.9
@@ -168,6 +187,14 @@ a.1.4 o.5 = 9.0.0 0.0.0=
 a.1.4 a.2.4 a.1.5 g.1 = 9.0.0 10.0.9 9.0.8 8.2.10
 a.1.4 a.2.4 g.2 = 9.0.0 10.0.9 9.1.10
 a.1.4 g.2 = 9.0.0 0.0.0=
+a.1.1 a.1.4 a.2.4 f.1@4 = 9.0.0 9.0.7 10.0.9 8.1.9
+a.1.1 a.1.4 a.1.65535 f.1@4 f.1@65535 f.1@1 = 9.0.0 9.0.7 9.0.1 7.1.9 1.1.9 0.1.9-
+a.1.4 a.2.4 a.3.4 g.2@4 = 9.0.0 10.0.9 11.0.10 9.1.10
+a.1.4 a.2.4 o.4@4 = 9.0.0 10.0.9 0.2.10-
+a.1.4 o.4@5 = 9.0.0 0.0.0=
+i.1.4 i.1.5 c.4@4 c.5@4 = 9.0.0 9.0.8 8.1.9 0.0.0=
+a.1.5 f.1@4 f.1@262149 = 9.0.0 0.0.0= 0.0.0=
+a.1.4@5 a.1.4@4 = 0.0.0= 9.0.0
 ";
 
 #[test]
@@ -195,7 +222,7 @@ fn play<N: Counted>(
 {
     let mut root = 0;
     for word in history.split(' ') {
-        let (needed, built) = make(rt, rows, root, &change_of(word));
+        let (needed, built) = make_word(rt, rows, root, word);
         let end = match built.root {
             same if same == root => "=",
             0 => "-",
@@ -209,6 +236,18 @@ fn play<N: Counted>(
         root = built.root;
     }
     Ok(())
+}
+
+// Makes the change that a word names, or its part on an object.
+fn make_word<N: Counted>(rt: &impl Abort, rows: &mut N, root: u64, word: &str) -> (u64, Built)
+    requires { (marks : List Mark) × Stands (N.words rows.old) (N.rows rows.old) root marks }
+    ensures { (marks : List Mark)
+        × Stands (N.words rows.new) (N.rows rows.new) result.1.root marks }
+{
+    match word.split_once('@') {
+        Some((name, object)) => make_on(rt, rows, root, &change_of(name), number(Some(object))),
+        None => make(rt, rows, root, &change_of(word)),
+    }
 }
 
 // The change that a word names.

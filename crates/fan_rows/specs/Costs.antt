@@ -30,11 +30,14 @@ upto others mark = list_any (λ other. not (nat_lt (order_of other) (order_of ma
 abbrev pub copied_on : List Mark → List Mark → ℕ
 copied_on old new = 8 + length (filter (upto (altered old new)) (in_either old new))
 
--- the rows that a change copies at most, over the objects on which it alters a mark
-unfoldable pub copied_rows : List Mark → Change → ℕ
-copied_rows marks change =
-    let new = changed marks change in
-    sum_by (λ object. copied_on (on object marks) (on object new)) (objects_of (altered marks new))
+-- the rows that are copied at most where one list of marks becomes another, over the objects on which a mark is
+-- altered
+unfoldable pub copied_between : List Mark → List Mark → ℕ
+copied_between old new = sum_by (λ object. copied_on (on object old) (on object new)) (objects_of (altered old new))
+
+-- the rows that a change copies at most
+abbrev pub copied_rows : List Mark → Change → ℕ
+copied_rows marks change = copied_between marks (changed marks change)
 
 -- the rows that a list of marks takes at most: eight index rows for each marked object, one row for each mark,
 -- and row 0

@@ -47,8 +47,8 @@ publish_below-requires g t c κs within =
     let is = one_more c.args.depth c.if-depth-eq0.false in
     let deep : TreeBefore words rows edit (suc low) c.args.digit c.args.row tree =
     subst (λ n. TreeBefore words rows edit n c.args.digit c.args.row tree) is c.requires.tree.1 in
-    let comes : goes edit.only c.args.row (suc low) c.args.digit ≡ true =
-    subst (λ n. goes edit.only c.args.row n c.args.digit ≡ true) is (sym c.goes.ensures ∙ c.if-not-goes.false) in
+    let comes : goes edit.scope c.args.row (suc low) c.args.digit ≡ true =
+    subst (λ n. goes edit.scope c.args.row n c.args.digit ≡ true) is (sym c.goes.ensures ∙ c.if-not-goes.false) in
     let below = c.rows_below-below.result in
     let are = c.rows_below-below.ensures.below low tree deep.lies deep.top_is in
     let same_words = c.rows_below-below.ensures.words in
@@ -73,8 +73,8 @@ publish_below-requires-2 g t c κs within =
     let is = one_more c.args.depth c.if-depth-eq0.false in
     let deep : TreeBefore words rows edit (suc low) c.args.digit c.args.row tree =
     subst (λ n. TreeBefore words rows edit n c.args.digit c.args.row tree) is c.requires.tree.1 in
-    let comes : goes edit.only c.args.row (suc low) c.args.digit ≡ true =
-    subst (λ n. goes edit.only c.args.row n c.args.digit ≡ true) is (sym c.goes.ensures ∙ c.if-not-goes.false) in
+    let comes : goes edit.scope c.args.row (suc low) c.args.digit ≡ true =
+    subst (λ n. goes edit.scope c.args.row n c.args.digit ≡ true) is (sym c.goes.ensures ∙ c.if-not-goes.false) in
     let below = c.rows_below-below.result in
     let are = c.rows_below-below.ensures.below low tree deep.lies deep.top_is in
     let same_words = c.rows_below-below.ensures.words in
@@ -111,8 +111,8 @@ publish_below-requires-3 g t c κs within =
     let is = one_more c.args.depth c.if-depth-eq0.false in
     let deep : TreeBefore words rows edit (suc low) c.args.digit c.args.row tree =
     subst (λ n. TreeBefore words rows edit n c.args.digit c.args.row tree) is c.requires.tree.1 in
-    let comes : goes edit.only c.args.row (suc low) c.args.digit ≡ true =
-    subst (λ n. goes edit.only c.args.row n c.args.digit ≡ true) is (sym c.goes.ensures ∙ c.if-not-goes.false) in
+    let comes : goes edit.scope c.args.row (suc low) c.args.digit ≡ true =
+    subst (λ n. goes edit.scope c.args.row n c.args.digit ≡ true) is (sym c.goes.ensures ∙ c.if-not-goes.false) in
     let below = c.rows_below-below.result in
     let are = c.rows_below-below.ensures.below low tree deep.lies deep.top_is in
     let same_words = c.rows_below-below.ensures.words in
@@ -153,8 +153,8 @@ publish_below-requires-4 g t c κs within =
     let is = one_more c.args.depth c.if-depth-eq0.false in
     let deep : TreeBefore words rows edit (suc low) c.args.digit c.args.row tree =
     subst (λ n. TreeBefore words rows edit n c.args.digit c.args.row tree) is c.requires.tree.1 in
-    let comes : goes edit.only c.args.row (suc low) c.args.digit ≡ true =
-    subst (λ n. goes edit.only c.args.row n c.args.digit ≡ true) is (sym c.goes.ensures ∙ c.if-not-goes.false) in
+    let comes : goes edit.scope c.args.row (suc low) c.args.digit ≡ true =
+    subst (λ n. goes edit.scope c.args.row n c.args.digit ≡ true) is (sym c.goes.ensures ∙ c.if-not-goes.false) in
     let below = c.rows_below-below.result in
     let are = c.rows_below-below.ensures.below low tree deep.lies deep.top_is in
     let same_words = c.rows_below-below.ensures.words in
@@ -199,8 +199,8 @@ returns-then-not-altered g t c = λ tree before.
     let is = one_more c.args.depth c.if-depth-eq0.false in
     let deep : TreeBefore words rows edit (suc low) c.args.digit c.args.row tree =
     subst (λ n. TreeBefore words rows edit n c.args.digit c.args.row tree) is before in
-    let comes : goes edit.only c.args.row (suc low) c.args.digit ≡ true =
-    subst (λ n. goes edit.only c.args.row n c.args.digit ≡ true) is (sym c.goes.ensures ∙ c.if-not-goes.false) in
+    let comes : goes edit.scope c.args.row (suc low) c.args.digit ≡ true =
+    subst (λ n. goes edit.scope c.args.row n c.args.digit ≡ true) is (sym c.goes.ensures ∙ c.if-not-goes.false) in
     let below = c.rows_below-below.result in
     let are = c.rows_below-below.ensures.below low tree deep.lies deep.top_is in
     let same_words = c.rows_below-below.ensures.words in
@@ -245,8 +245,8 @@ replace_index-requires g t c =
     let is = one_more c.args.depth c.if-depth-eq0.false in
     let deep : TreeBefore words rows edit (suc low) c.args.digit c.args.row tree =
     subst (λ n. TreeBefore words rows edit n c.args.digit c.args.row tree) is c.requires.tree.1 in
-    let comes : goes edit.only c.args.row (suc low) c.args.digit ≡ true =
-    subst (λ n. goes edit.only c.args.row n c.args.digit ≡ true) is (sym c.goes.ensures ∙ c.if-not-goes.false) in
+    let comes : goes edit.scope c.args.row (suc low) c.args.digit ≡ true =
+    subst (λ n. goes edit.scope c.args.row n c.args.digit ≡ true) is (sym c.goes.ensures ∙ c.if-not-goes.false) in
     let below = c.rows_below-below.result in
     let are = c.rows_below-below.ensures.below low tree deep.lies deep.top_is in
     let same_words = c.rows_below-below.ensures.words in
@@ -288,8 +288,8 @@ returns g t c = λ tree before.
     let is = one_more c.args.depth c.if-depth-eq0.false in
     let deep : TreeBefore words rows edit (suc low) c.args.digit c.args.row tree =
     subst (λ n. TreeBefore words rows edit n c.args.digit c.args.row tree) is before in
-    let comes : goes edit.only c.args.row (suc low) c.args.digit ≡ true =
-    subst (λ n. goes edit.only c.args.row n c.args.digit ≡ true) is (sym c.goes.ensures ∙ c.if-not-goes.false) in
+    let comes : goes edit.scope c.args.row (suc low) c.args.digit ≡ true =
+    subst (λ n. goes edit.scope c.args.row n c.args.digit ≡ true) is (sym c.goes.ensures ∙ c.if-not-goes.false) in
     let below = c.rows_below-below.result in
     let are = c.rows_below-below.ensures.below low tree deep.lies deep.top_is in
     let same_words = c.rows_below-below.ensures.words in

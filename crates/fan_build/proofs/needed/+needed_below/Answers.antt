@@ -129,6 +129,6 @@ returns-clause-effect g t c = λ tree lies is.
       three = λ tree lies is. c.needed_below-3.ensures.effect tree (subst (λ ws. Lies ws tree (c.args.depth - 1)) (sym (c.needed_below-2.ensures.words ∙ c.needed_below.ensures.words ∙ c.rows_below-below.ensures.words)) lies) is;
       four = λ tree lies is. c.needed_below-4.ensures.effect tree (subst (λ ws. Lies ws tree (c.args.depth - 1)) (sym (c.needed_below-3.ensures.words ∙ c.needed_below-2.ensures.words ∙ c.needed_below.ensures.words ∙ c.rows_below-below.ensures.words)) lies) is;
     } in
-    let comes = subst (λ row. goes c.args.edit.now.only row c.args.depth c.args.digit ≡ true) (sym is) (sym c.goes.ensures ∙ c.if-not-goes.false) in
+    let comes = subst (λ row. goes c.args.edit.now.scope row c.args.depth c.args.digit ≡ true) (sym is) (sym c.goes.ensures ∙ c.if-not-goes.false) in
     c.joined.ensures ∙ joined_is words c.args.edit.now c.args.depth tree lies c.if-depth-eq0.false
     c.rows_below-below.result are all four c.args.digit comes

@@ -1,151 +1,55 @@
-use Rattle.std.proofs.Common.{sym, subst, arith}
-use Rattle.fan_build.specs.Steps.{TreeBefore, TreeMade}
-use Rattle.fan_build.proofs.FewRetired.{few_retired}
-use Rattle.fan_build.proofs.Roots.{edit_is, root_before, root_needed, root_once, root_pictures, root_reached, root_retired, root_rows, root_wrote}
-use Rattle.fan_build.proofs.TreeNeeds.{edit_of}
+use Rattle.std.proofs.Common.{List, ◌∙◌}
+use Rattle.fan_bits.specs.declared.mark.Mark.{Mark}
+use Rattle.fan_bits.specs.Marks.{changed}
+use Rattle.fan_build.specs.Building.{IsBuilt}
+use Rattle.fan_build.specs.Publishing.{CanPublish}
+use Rattle.fan_build.proofs.Roots.{can_build, retired_are}
+use Rattle.fan_build.proofs.publish.publish_rows.Given.{Over}
 use Rattle.fan_build.proofs.publish.publish_rows.Goals as goal
 
-pub publish_below-made-requires : goal.publish_below-made-requires
-publish_below-made-requires g c =
-    let words = g.N.Cells.words c.args.rows.now in
-    let rows = g.N.Cells.rows c.args.rows.now in
-    let is = edit_is c.of-edit.result c.args.change.now c.of-edit.ensures.change c.of-edit.ensures.only in
-    let tree = c.requires.1.possible.pictured.0 in
-    record {
-      depth = omega arith;
-      tree = (
-        tree,
-        subst (λ edit. TreeBefore words rows edit 8 0 c.args.root tree) (sym is)
-            (root_before words rows c.args.root c.requires.0 c.args.change.now c.requires.1),
-      );
-    }
+pub build-requires : goal.build-requires
+build-requires g c = (
+  c.requires.0,
+  changed c.requires.0 c.args.change.now,
+  can_build (g.N.Cells.words c.args.rows.now) (g.N.Cells.rows c.args.rows.now) c.args.root c.requires.0
+      c.args.change.now c.of-edit.result c.of-edit.ensures c.requires.1,
+)
 
-pub overflow_cast-result : goal.overflow_cast-result
-overflow_cast-result g c =
-    let words = g.N.Cells.words c.args.rows.now in
-    let rows = g.N.Cells.rows c.args.rows.now in
-    let later = g.N.Cells.words c.publish_below-made.new.rows in
-    let after = g.N.Cells.rows c.publish_below-made.new.rows in
-    let is = edit_is c.of-edit.result c.args.change.now c.of-edit.ensures.change c.of-edit.ensures.only in
-    let tree = c.requires.1.possible.pictured.0 in
-    let before : TreeBefore words rows c.of-edit.result 8 0 c.args.root tree =
-    subst (λ edit. TreeBefore words rows edit 8 0 c.args.root tree) (sym is)
-    (root_before words rows c.args.root c.requires.0 c.args.change.now c.requires.1) in
-    let made : TreeMade words later rows after (edit_of c.args.change.now) 8 0 tree c.publish_below-made.result =
-    subst (λ edit. TreeMade words later rows after edit 8 0 tree c.publish_below-made.result) is
-    (c.publish_below-made.ensures tree before) in
-    let count = root_retired words rows c.args.root c.requires.0 c.args.change.now c.requires.1 later after c.publish_below-made.result made in
-    let few = few_retired c.requires.0 c.args.change.now c.requires.1.possible.list in
-    record { fits = omega (arith, count, few) }
+-- what is built of each list of marks
+built : (g : Over) (c : goal.After-build g) (marks : List Mark)
+    → CanPublish (g.N.Cells.words c.args.rows.now) (g.N.Cells.rows c.args.rows.now) c.args.root marks
+    c.args.change.now
+    → IsBuilt (g.N.Cells.words c.args.rows.now) (g.N.Cells.words c.build.new.rows)
+    (g.N.Cells.rows c.args.rows.now) (g.N.Cells.rows c.build.new.rows) c.args.root marks
+    (changed marks c.args.change.now) c.build.result
+built g c marks can =
+    c.build.ensures marks (changed marks c.args.change.now)
+    (can_build (g.N.Cells.words c.args.rows.now) (g.N.Cells.rows c.args.rows.now) c.args.root marks
+    c.args.change.now c.of-edit.result c.of-edit.ensures can)
 
 pub returns-clause-pictures : goal.returns-clause-pictures
-returns-clause-pictures g c = λ marks can.
-    let words = g.N.Cells.words c.args.rows.now in
-    let rows = g.N.Cells.rows c.args.rows.now in
-    let later = g.N.Cells.words c.publish_below-made.new.rows in
-    let after = g.N.Cells.rows c.publish_below-made.new.rows in
-    let is = edit_is c.of-edit.result c.args.change.now c.of-edit.ensures.change c.of-edit.ensures.only in
-    let tree = can.possible.pictured.0 in
-    let before : TreeBefore words rows c.of-edit.result 8 0 c.args.root tree =
-    subst (λ edit. TreeBefore words rows edit 8 0 c.args.root tree) (sym is)
-    (root_before words rows c.args.root marks c.args.change.now can) in
-    let made : TreeMade words later rows after (edit_of c.args.change.now) 8 0 tree c.publish_below-made.result =
-    subst (λ edit. TreeMade words later rows after edit 8 0 tree c.publish_below-made.result) is
-    (c.publish_below-made.ensures tree before) in
-    root_pictures words rows c.args.root marks c.args.change.now can later after c.publish_below-made.result made
+returns-clause-pictures g c = λ marks can. (built g c marks can).pictures
 
 pub returns-clause-reached : goal.returns-clause-reached
-returns-clause-reached g c =
-    let words = g.N.Cells.words c.args.rows.now in
-    let rows = g.N.Cells.rows c.args.rows.now in
-    let later = g.N.Cells.words c.publish_below-made.new.rows in
-    let after = g.N.Cells.rows c.publish_below-made.new.rows in
-    let is = edit_is c.of-edit.result c.args.change.now c.of-edit.ensures.change c.of-edit.ensures.only in
-    let tree = c.requires.1.possible.pictured.0 in
-    let before : TreeBefore words rows c.of-edit.result 8 0 c.args.root tree =
-    subst (λ edit. TreeBefore words rows edit 8 0 c.args.root tree) (sym is)
-    (root_before words rows c.args.root c.requires.0 c.args.change.now c.requires.1) in
-    let made : TreeMade words later rows after (edit_of c.args.change.now) 8 0 tree c.publish_below-made.result =
-    subst (λ edit. TreeMade words later rows after edit 8 0 tree c.publish_below-made.result) is
-    (c.publish_below-made.ensures tree before) in
-    root_reached words rows c.args.root c.requires.0 c.args.change.now c.requires.1 later after c.publish_below-made.result made
+returns-clause-reached g c = (built g c c.requires.0 c.requires.1).reached
 
 pub returns-clause-fresh : goal.returns-clause-fresh
-returns-clause-fresh g c =
-    let words = g.N.Cells.words c.args.rows.now in
-    let rows = g.N.Cells.rows c.args.rows.now in
-    let later = g.N.Cells.words c.publish_below-made.new.rows in
-    let after = g.N.Cells.rows c.publish_below-made.new.rows in
-    let is = edit_is c.of-edit.result c.args.change.now c.of-edit.ensures.change c.of-edit.ensures.only in
-    let tree = c.requires.1.possible.pictured.0 in
-    let before : TreeBefore words rows c.of-edit.result 8 0 c.args.root tree =
-    subst (λ edit. TreeBefore words rows edit 8 0 c.args.root tree) (sym is)
-    (root_before words rows c.args.root c.requires.0 c.args.change.now c.requires.1) in
-    let made : TreeMade words later rows after (edit_of c.args.change.now) 8 0 tree c.publish_below-made.result =
-    subst (λ edit. TreeMade words later rows after edit 8 0 tree c.publish_below-made.result) is
-    (c.publish_below-made.ensures tree before) in
-    root_wrote words rows c.args.root c.requires.0 c.args.change.now c.requires.1 later after c.publish_below-made.result made
+returns-clause-fresh g c = (built g c c.requires.0 c.requires.1).fresh
 
 pub returns-clause-needed : goal.returns-clause-needed
-returns-clause-needed g c = λ marks can.
-    let words = g.N.Cells.words c.args.rows.now in
-    let rows = g.N.Cells.rows c.args.rows.now in
-    let later = g.N.Cells.words c.publish_below-made.new.rows in
-    let after = g.N.Cells.rows c.publish_below-made.new.rows in
-    let is = edit_is c.of-edit.result c.args.change.now c.of-edit.ensures.change c.of-edit.ensures.only in
-    let tree = can.possible.pictured.0 in
-    let before : TreeBefore words rows c.of-edit.result 8 0 c.args.root tree =
-    subst (λ edit. TreeBefore words rows edit 8 0 c.args.root tree) (sym is)
-    (root_before words rows c.args.root marks c.args.change.now can) in
-    let made : TreeMade words later rows after (edit_of c.args.change.now) 8 0 tree c.publish_below-made.result =
-    subst (λ edit. TreeMade words later rows after edit 8 0 tree c.publish_below-made.result) is
-    (c.publish_below-made.ensures tree before) in
-    root_needed words rows c.args.root marks c.args.change.now can later after c.publish_below-made.result made
+returns-clause-needed g c = λ marks can. (built g c marks can).needed
 
 pub returns-clause-marks : goal.returns-clause-marks
-returns-clause-marks g c = λ marks can.
-    let words = g.N.Cells.words c.args.rows.now in
-    let rows = g.N.Cells.rows c.args.rows.now in
-    let later = g.N.Cells.words c.publish_below-made.new.rows in
-    let after = g.N.Cells.rows c.publish_below-made.new.rows in
-    let is = edit_is c.of-edit.result c.args.change.now c.of-edit.ensures.change c.of-edit.ensures.only in
-    let tree = can.possible.pictured.0 in
-    let before : TreeBefore words rows c.of-edit.result 8 0 c.args.root tree =
-    subst (λ edit. TreeBefore words rows edit 8 0 c.args.root tree) (sym is)
-    (root_before words rows c.args.root marks c.args.change.now can) in
-    let made : TreeMade words later rows after (edit_of c.args.change.now) 8 0 tree c.publish_below-made.result =
-    subst (λ edit. TreeMade words later rows after edit 8 0 tree c.publish_below-made.result) is
-    (c.publish_below-made.ensures tree before) in
-    root_retired words rows c.args.root marks c.args.change.now can later after c.publish_below-made.result made
+returns-clause-marks g c = λ marks can. (built g c marks can).marks_is ∙ retired_are marks c.args.change.now
 
 pub returns-clause-rows : goal.returns-clause-rows
-returns-clause-rows g c =
-    let words = g.N.Cells.words c.args.rows.now in
-    let rows = g.N.Cells.rows c.args.rows.now in
-    let later = g.N.Cells.words c.publish_below-made.new.rows in
-    let after = g.N.Cells.rows c.publish_below-made.new.rows in
-    let is = edit_is c.of-edit.result c.args.change.now c.of-edit.ensures.change c.of-edit.ensures.only in
-    let tree = c.requires.1.possible.pictured.0 in
-    let before : TreeBefore words rows c.of-edit.result 8 0 c.args.root tree =
-    subst (λ edit. TreeBefore words rows edit 8 0 c.args.root tree) (sym is)
-    (root_before words rows c.args.root c.requires.0 c.args.change.now c.requires.1) in
-    let made : TreeMade words later rows after (edit_of c.args.change.now) 8 0 tree c.publish_below-made.result =
-    subst (λ edit. TreeMade words later rows after edit 8 0 tree c.publish_below-made.result) is
-    (c.publish_below-made.ensures tree before) in
-    root_rows words rows c.args.root c.requires.0 c.args.change.now c.requires.1 later after c.publish_below-made.result made
+returns-clause-rows g c = (built g c c.requires.0 c.requires.1).rows_is
 
 pub returns-clause-once : goal.returns-clause-once
-returns-clause-once g c =
-    let words = g.N.Cells.words c.args.rows.now in
-    let rows = g.N.Cells.rows c.args.rows.now in
-    let later = g.N.Cells.words c.publish_below-made.new.rows in
-    let after = g.N.Cells.rows c.publish_below-made.new.rows in
-    let is = edit_is c.of-edit.result c.args.change.now c.of-edit.ensures.change c.of-edit.ensures.only in
-    let tree = c.requires.1.possible.pictured.0 in
-    let before : TreeBefore words rows c.of-edit.result 8 0 c.args.root tree =
-    subst (λ edit. TreeBefore words rows edit 8 0 c.args.root tree) (sym is)
-    (root_before words rows c.args.root c.requires.0 c.args.change.now c.requires.1) in
-    let made : TreeMade words later rows after (edit_of c.args.change.now) 8 0 tree c.publish_below-made.result =
-    subst (λ edit. TreeMade words later rows after edit 8 0 tree c.publish_below-made.result) is
-    (c.publish_below-made.ensures tree before) in
-    root_once words rows c.args.root c.requires.0 c.args.change.now c.requires.1 later after c.publish_below-made.result made
+returns-clause-once g c = (built g c c.requires.0 c.requires.1).once
+
+pub returns-clause-same : goal.returns-clause-same
+returns-clause-same g c = λ marks can. (built g c marks can).same
+
+pub returns-clause-kept : goal.returns-clause-kept
+returns-clause-kept g c = λ marks can. (built g c marks can).kept

@@ -1,8 +1,7 @@
 use Rattle.std.proofs.Common.{rules}
 use Rattle.fan_bits.specs.Marks.{changed}
-use Rattle.fan_build.specs.Publishing.{CanPublish}
 use Rattle.fan_build.specs.Standing.{IsPossible, Stands}
-use Rattle.fan_build.proofs.Standing.{can_change, can_publish, stands_after}
+use Rattle.fan_build.proofs.Standing.{can_change, can_make, stands_after}
 use Rattle.fan_build.proofs.tests.make.Goals as goal
 
 pub rows_needed-needed-requires : goal.rows_needed-needed-requires
@@ -21,9 +20,9 @@ publish_rows-requires g c =
     let can = can_change words rows c.args.root c.requires.0 c.requires.1 c.args.change.now possible in (
       c.requires.0,
       rw (c.rows_needed-needed.ensures.words, same_rows)
-          (can_publish words rows c.args.root c.requires.0 c.requires.1 c.args.change.now possible
-          c.rows_needed-needed.result c.room.result (c.rows_needed-needed.ensures.number c.requires.0 can)
-          (search rules) (rw same_rows at c.room.ensures)),
+          (can_make words rows c.args.root c.requires.0 c.requires.1 c.args.change.now possible
+          (changed c.requires.0 c.args.change.now) c.rows_needed-needed.result c.room.result
+          (c.rows_needed-needed.ensures.number c.requires.0 can) (search rules) (rw same_rows at c.room.ensures)),
     )
 
 pub returns : goal.returns
@@ -32,16 +31,16 @@ returns g c =
     let rows = g.N.Cells.rows c.rows_needed-needed.new.cells in
     let marks = c.requires.0 in
     let change = c.args.change.now in
+    let new = changed marks change in
     let stands : Stands words rows c.args.root marks =
     rw (c.rows_needed-needed.ensures.words, c.rows_needed-needed.ensures.rows) c.requires.1 in
     let possible : IsPossible change = search rules in
     let asks = can_change (g.N.Cells.words c.args.rows.now) (g.N.Cells.rows c.args.rows.now) c.args.root marks
     c.requires.1 change possible in
-    let can : CanPublish words rows c.args.root marks change = can_publish words rows c.args.root marks stands
-    change possible c.rows_needed-needed.result c.room.result (c.rows_needed-needed.ensures.number marks asks)
-    (search rules) c.room.ensures in (
-      changed marks change,
+    let can = can_make words rows c.args.root marks stands change possible new c.rows_needed-needed.result
+    c.room.result (c.rows_needed-needed.ensures.number marks asks) (search rules) c.room.ensures in (
+      new,
       stands_after words rows c.args.root marks stands change possible (g.N.Cells.words c.publish_rows.new.rows)
-          (g.N.Cells.rows c.publish_rows.new.rows) c.publish_rows.result.root
-          (c.publish_rows.ensures.pictures marks can) c.publish_rows.ensures.fresh c.publish_rows.ensures.once,
+          (g.N.Cells.rows c.publish_rows.new.rows) c.publish_rows.result.root c.publish_rows.ensures.fresh
+          c.publish_rows.ensures.once (c.publish_rows.ensures.pictures marks can),
     )
