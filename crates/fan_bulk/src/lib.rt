@@ -23,8 +23,6 @@ mod lines;
 mod rounds;
 mod start;
 mod summary;
-#[cfg(test)]
-mod tests;
 
 pub use generator::Generator;
 pub use laws::{script_is_of_lines, summaries_add_up};

@@ -5,8 +5,6 @@ mod dump;
 mod event;
 mod laws;
 mod numbers;
-#[cfg(test)]
-mod tests;
 
 pub use dump::{CutOff, write_dump};
 pub use event::print_event;

@@ -15,8 +15,6 @@ mod info;
 mod infos;
 mod laws;
 mod parts;
-#[cfg(test)]
-mod tests;
 mod write;
 
 pub use info::{Ident, Info};

@@ -16,8 +16,6 @@ mod infos;
 mod laws;
 mod parts;
 mod records;
-#[cfg(test)]
-mod tests;
 mod write;
 
 pub use infos::{handle_end, info_len};

@@ -11,8 +11,6 @@ mod ops;
 mod outcomes;
 mod reply;
 mod step;
-#[cfg(test)]
-mod tests;
 mod tree;
 mod words;
 

@@ -16,6 +16,3 @@ pub use laws::{
 };
 pub use plain::run_plain;
 pub use status::Status;
-
-#[cfg(test)]
-mod tests;

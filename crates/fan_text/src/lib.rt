@@ -7,8 +7,6 @@ mod hex;
 mod laws;
 mod names;
 mod numerals;
-#[cfg(test)]
-mod tests;
 
 pub use bytes::{read_bytes, write_bytes};
 pub use decimal::read_decimal;

@@ -1,8 +1,8 @@
 // The script of some seeds, and a summary.
 ghost use Rattle.std.specs.Prelude.{◌<◌, length};
 
-use super::{Generator, Rounds, Summary, opening};
 use fan_bits::Errno;
+use fan_bulk::{Generator, Rounds, Summary, opening};
 use fan_io::Items;
 use fan_script::{Line, Outcomes, Reply, StepOutcome, read_line};
 use std::alloc::Global;
@@ -81,7 +81,7 @@ fn rounds_have_the_lines_of_their_kind(rt: HostRuntime) -> Result<(), Fail> {
 }
 
 // The summary of three lines with these replies.
-#[tactic(auto, unfolding(crate::specs::Summary::summary))]
+#[tactic(auto, unfolding(fan_bulk::specs::Summary::summary))]
 fn summary_of(replies: &[Reply]) -> Summary
     requires { length replies.now < 100 }
 {

@@ -1,5 +1,5 @@
 // Lines at their limits, and bytes that are no line.
-use super::{Line, LineRefused, OpWord, Step, read_line};
+use fan_script::{Line, LineRefused, OpWord, Step, read_line};
 use std::alloc::{AllocError, Global};
 use std::test::Fail;
 

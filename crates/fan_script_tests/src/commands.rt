@@ -1,6 +1,6 @@
 // The top call over sources and sinks in memory.
-use crate::{Status, run_plain};
 use fan_io::{MemSink, MemSource};
+use fan_shell::{Status, run_plain};
 use std::alloc::Global;
 use std::process::Abort;
 use std::test::Fail;

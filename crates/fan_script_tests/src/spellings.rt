@@ -1,5 +1,5 @@
 // Spellings at their limits.
-use crate::{read_bytes, read_decimal, read_hex, read_name, read_path, write_bytes};
+use fan_text::{read_bytes, read_decimal, read_hex, read_name, read_path, write_bytes};
 use std::alloc::Global;
 use std::test::Fail;
 

@@ -1,6 +1,6 @@
 // The most groups, marks and objects that there may be, and the longest script.
 use super::{assert_plays, ended};
-use crate::Status;
+use fan_shell::Status;
 use std::test::Fail;
 
 #[test]

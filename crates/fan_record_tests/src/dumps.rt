@@ -1,6 +1,6 @@
 // What is printed for records, good ones and hostile ones. What is expected was written by hand from the
 // layout and the lines of docs/FORMATS.md.
-use super::*;
+use fan_dump::{CutOff, one_dump_at_most, write_dump};
 use fan_io::MemSink;
 use fan_record::BadRecord;
 use std::alloc::Global;

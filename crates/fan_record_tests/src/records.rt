@@ -1,6 +1,9 @@
 // Records as they are written and read, on good and on hostile bytes. What is expected was computed by
 // hand from the layout of docs/FORMATS.md.
-use super::*;
+use fan_record::{
+    BadRecord, Record, Records, handle_end, info_len, one_reading_of_records, one_record_at_most,
+    records_are_read_again, write_record,
+};
 use std::alloc::{AllocError, Global};
 use std::test::Fail;
 

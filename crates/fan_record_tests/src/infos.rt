@@ -2,8 +2,11 @@
 // computed by hand from the layout of docs/FORMATS.md.
 ghost use Rattle.fan_event.specs.Names.{IsName};
 
-use super::*;
 use fan_event::{Name, Target};
+use fan_fid::{
+    Ident, Info, Infos, events_are_read_again, infos_are_read_again, infos_fill_a_record,
+    infos_len, one_info_at_most, one_reading_of_infos, write_infos,
+};
 use fan_io::NoMemory;
 use fan_record::BadRecord;
 use std::alloc::{AllocError, Global};
