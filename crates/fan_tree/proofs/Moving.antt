@@ -14,11 +14,11 @@ use Rattle.fan_tree.specs.Changes.{moved, renamed, renamed_to, with_moved}
 use Rattle.fan_tree.specs.Steps.{CanMove, movable, movable_by}
 use Rattle.fan_tree.specs.Tree.{DirEntry, Inode, TreeState, about_of, entry_of, inode_of, is_named}
 use Rattle.fan_tree.specs.Whole.{AreApart, IsEntry, IsRooted, IsTree, LeadsBelow}
-use Rattle.fan_tree.proofs.Entries.{named_is, named_itself}
+use Rattle.fan_tree.proofs.EntryLemmas.{named_is, named_itself}
 use Rattle.fan_tree.proofs.Found.{each_found, inode_of_child, inode_of_number, no_name}
 use Rattle.fan_tree.proofs.Lists.{each_fails}
 use Rattle.fan_tree.proofs.Making.{none_from_is_some}
-use Rattle.fan_tree.proofs.Moves.{moved_inode}
+use Rattle.fan_tree.proofs.EntryLemmas.{moved_inode}
 use Rattle.fan_tree.proofs.Removing.{name_leads, same_named}
 use Rattle.fan_tree.proofs.Upward.{above_is, first_step, one_more, told_within, within_root}
 

@@ -14,12 +14,11 @@ use Rattle.fan_tree.specs.Changes.{has_entries, removed, removed_by, without_ent
 use Rattle.fan_tree.specs.Steps.{CanTake}
 use Rattle.fan_tree.specs.Tree.{DirEntry, Inode, TreeState, entry_of, inode_of, is_named, led_to}
 use Rattle.fan_tree.specs.Whole.{AreApart, IsBelow, IsEntry, IsInode, IsRooted, IsTree, LeadsBelow}
-use Rattle.fan_tree.proofs.Dirs.{is_in}
-use Rattle.fan_tree.proofs.Entries.{named_is}
+use Rattle.fan_tree.specs.Table.{is_in}
+use Rattle.fan_tree.proofs.EntryLemmas.{LeadsElsewhere, named_is}
 use Rattle.fan_tree.proofs.Found.{has_number, inode_of_is, inode_of_number}
 use Rattle.fan_tree.proofs.Lists.{each_fails, find_past}
 use Rattle.fan_tree.proofs.Making.{none_from_is_some}
-use Rattle.fan_tree.proofs.Order.{LeadsElsewhere}
 use Rattle.fan_tree.proofs.Upward.{first_step, one_more, step_up}
 
 -- where numbers rise, the entries that fail a test lead elsewhere than the one that is found by it

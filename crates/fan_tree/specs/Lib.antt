@@ -1,7 +1,12 @@
 pub mod Ancestors
 pub mod Changes
 pub mod Inodes
-pub mod Names
+pub mod Slots
+pub mod Spilled
+pub mod Tags
+pub mod Entries
+pub mod Cells
+pub mod Table
 pub mod Steps
 pub mod Tree
 pub mod Whole

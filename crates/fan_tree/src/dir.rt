@@ -1,20 +1,20 @@
-// The names in one directory, found in logarithmic time.
-ghost use Rattle.std.specs.Prelude.{◌≡◌, ◌∷◌, ◌↔◌, [], None, IfNone, IfSome, IsTrue, OnErr, OnOk};
-ghost use Rattle.fan_tree.specs.Names.{Adds, number_of};
+// Names in one directory, found in logarithmic time.
+ghost use Rattle.std.specs.Prelude.{◌≡◌, [], None, OnErr, OnOk, Some};
+ghost use Rattle.fan_tree.specs.Spilled.{AreSame, number_of};
 
 use fan_io::NoMemory;
 use std::alloc::Global;
 use std::collections::BTreeMap;
 use std::marker::Model;
 
-/// The names in a directory, each with the number of the inode that it leads to.
+/// Names in a directory, each with the number of the inode that it leads to.
 #[derive(Drop)]
 pub(crate) struct Dir {
     numbers: BTreeMap<Vec<u8>, u32>,
 }
 
 impl Model for Dir {
-    ghost use Rattle.fan_tree.specs.Names.{Named, named};
+    ghost use Rattle.fan_tree.specs.Spilled.{Named, named};
 
     ghost Value = { Named };
 
@@ -22,7 +22,7 @@ impl Model for Dir {
 }
 
 impl Dir {
-    /// A directory with no name.
+    /// No name.
     pub(crate) fn new(alloc: Global) -> Dir
         ensures { result ≡ [] }
     {
@@ -31,37 +31,28 @@ impl Dir {
         }
     }
 
-    /// The number that a name leads to; None exactly if the directory has no such name.
+    /// The number that a name leads to; None exactly if the name isn't there.
     pub(crate) fn get(&self, name: &[u8]) -> Option<u32>
         ensures { result ≡ number_of self.now name.now }
     {
         self.numbers.get(name).copied()
     }
 
-    /// Whether the directory has no name.
-    pub(crate) fn is_empty(&self) -> bool
-        ensures { IsTrue result ↔ (self.now ≡ []) }
-    {
-        self.numbers.is_empty()
-    }
-
-    /// Adds a name.
+    /// Puts a number at a name.
     pub(crate) fn insert(&mut self, name: Vec<u8>, number: u32) -> Result<(), NoMemory>
-        requires { number_of self.old name.items ≡ None }
-        ensures ok { OnOk result (Adds self.old self.new (name.items, number)) }
+        ensures here { OnOk result (number_of self.new name.items ≡ Some number) }
+        ensures others { OnOk result (AreSame name.items self.old self.new) }
         ensures err { OnErr result (self.new ≡ self.old) }
     {
         self.numbers.insert(name, number)?;
         Ok(())
     }
 
-    /// Takes a name away, and gives the number that it led to; None exactly if the directory has no such name.
-    pub(crate) fn remove(&mut self, name: &[u8]) -> Option<u32>
-        ensures value { result ≡ number_of self.old name.now }
-        ensures some { IfSome result (λ number. Adds self.new self.old (name.now, number)) }
+    /// Takes a name away, if it is there.
+    pub(crate) fn remove(&mut self, name: &[u8])
         ensures gone { number_of self.new name.now ≡ None }
-        ensures none { IfNone result (self.new ≡ self.old) }
+        ensures others { AreSame name.now self.old self.new }
     {
-        self.numbers.remove(name)
+        self.numbers.remove(name);
     }
 }

@@ -9,13 +9,19 @@
 //!     tree.remove(2, b"issue".as_slice())? // Ok(file), which is never given again
 #![tactic(auto)]
 
+mod cells;
 mod changes;
+mod counts;
 mod dir;
+mod entries;
+mod entry;
 mod inode;
 mod inodes;
 mod laws;
 mod names;
-mod parents;
+mod spilled;
+mod table;
+mod tag;
 #[cfg(test)]
 mod tests;
 mod tree;

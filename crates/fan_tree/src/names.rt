@@ -1,37 +1,41 @@
-// The entries of all directories: each directory is found at once, and a name in it in logarithmic time.
+// The entries of all directories: a name in one is found at once, or in logarithmic time if too many have its tag.
 ghost use Rattle.std.specs.Prelude.{◌≡◌, ◌<◌, ◌==◌, ◌∷◌, ◌++◌, [], None, All, IfSome, IsSome, OnErr, OnOk, Some, filter, find, length, map, not, option_map};
 ghost use Rattle.std.specs.List.{AllPairs, list_any};
 ghost use Rattle.fan_tree.specs.Ancestors.{leads_to};
 ghost use Rattle.fan_tree.specs.Changes.{moved};
-ghost use Rattle.fan_tree.specs.Names.{NamesOne, NamesSame, number_in};
 ghost use Rattle.fan_tree.specs.Tree.{is_named};
-ghost use Rattle.fan_tree.specs.Whole.{AreApart, LeadsBelow};
+ghost use Rattle.fan_tree.specs.Whole.{AreApart};
 
-use super::dir::Dir;
-use super::parents::Parents;
+use super::counts::Counts;
+use super::entries::Entries;
+use super::entry::Entry;
+use super::table::Table;
 use fan_io::NoMemory;
 use std::alloc::Global;
 use std::marker::Model;
 
-/// The names in each directory, which stand at its number, and the directory that has the entry of each inode. A
-/// number that is none of a directory has no names.
+/// The entries of all directories, by the numbers of the inodes that they lead to.
 #[derive(Drop)]
 pub(crate) struct Names {
     alloc: Global,
-    dirs: Vec<Dir>,
-    parents: Parents,
+    entries: Entries,
+    // Where the number that a name leads to is found.
+    table: Table,
+    // How many entries each directory has.
+    counts: Counts,
 }
 
 impl Model for Names {
     ghost use Rattle.std.specs.Prelude.{List};
-    ghost use Rattle.fan_tree.specs.Names.{AreKept, in_order};
+    ghost use Rattle.fan_tree.specs.Entries.{entries_of};
+    ghost use Rattle.fan_tree.specs.Table.{AreKept};
     ghost use Rattle.fan_tree.specs.Tree.{DirEntry};
 
     ghost Value = { List DirEntry };
 
-    ghost view = { λ n. in_order n.dirs.items };
+    ghost view = { λ n. entries_of n.entries };
 
-    ghost invariant = { λ n. AreKept n.dirs.items n.parents };
+    ghost invariant = { λ n. AreKept n.entries n.table n.counts };
 }
 
 impl Names {
@@ -41,27 +45,26 @@ impl Names {
     {
         Names {
             alloc,
-            dirs: Vec::new(alloc),
-            parents: Parents::new(alloc),
+            entries: Entries::new(alloc),
+            table: Table::new(alloc),
+            counts: Counts::new(alloc),
         }
     }
 
     /// The number that a name leads to in a directory; None exactly if the directory has no such name.
     pub(crate) fn get(&self, dir: u32, name: &[u8]) -> Option<u32>
+        requires { AllPairs AreApart self.now }
         ensures { result
             ≡ option_map (λ entry. entry.inode) (find (is_named dir name.now) self.now) }
     {
-        self.dirs.get(dir as usize)?.get(name)
+        self.table.get(&self.entries, dir, name)
     }
 
     /// Whether a directory has a name.
     pub(crate) fn has_any(&self, dir: u32) -> bool
         ensures { result ≡ list_any (λ entry. entry.dir == dir) self.now }
     {
-        match self.dirs.get(dir as usize) {
-            Some(names) => !names.is_empty(),
-            None => false,
-        }
+        self.counts.get(dir) > 0
     }
 
     /// The directory that has the name of an inode; None exactly if no name leads to the inode.
@@ -69,22 +72,26 @@ impl Names {
         ensures { result
             ≡ option_map (λ entry. entry.dir) (find (leads_to number) self.now) }
     {
-        self.parents.get(number)
+        Some(self.entries.get(number)?.dir())
     }
 
     /// Adds a name to a directory, which leads to a number above those that the others lead to.
     pub(crate) fn push(&mut self, dir: u32, name: &[u8], number: u32) -> Result<(), NoMemory>
+        requires first { 0 < number }
         requires free { find (is_named dir name.now) self.old ≡ None }
         requires last { All (λ entry. entry.inode < number) self.old }
+        requires unique { AllPairs AreApart self.old }
         ensures ok { OnOk result (self.new
             ≡ self.old ++ record { dir = dir; name = name.now; inode = number } ∷ []) }
         ensures err { OnErr result (self.new ≡ self.old) }
     {
-        let name = name.to_vec(self.alloc)?;
-        self.parents.reserve(number)?;
-        reserve(&mut self.dirs, self.alloc, dir as usize)?;
-        insert(&mut self.dirs, dir as usize, name, number)?;
-        self.parents.set(number, Some(dir));
+        let entry = Entry::new(dir, name.to_vec(self.alloc)?);
+        self.entries.reserve(number)?;
+        self.counts.reserve(dir)?;
+        self.table.make_room(self.alloc, &self.entries)?;
+        self.table.note(&self.entries, &entry, number)?;
+        self.entries.set(number, Some(entry));
+        self.counts.add(dir);
         Ok(())
     }
 
@@ -93,11 +100,11 @@ impl Names {
         requires there { find (is_named dir name.now) self.old
             ≡ Some (record { dir = dir; name = name.now; inode = number }) }
         requires unique { AllPairs AreApart self.old }
-        requires one_name { AllPairs LeadsBelow self.old }
         ensures { self.new ≡ filter (λ entry. not (is_named dir name.now entry)) self.old }
     {
-        remove(&mut self.dirs, dir as usize, name);
-        self.parents.set(number, None);
+        self.table.forget(dir, name);
+        self.entries.set(number, None);
+        self.counts.subtract(dir);
     }
 
     /// Moves a name, with its number, to another directory or to another name there. No other name leads there.
@@ -113,48 +120,16 @@ impl Names {
             ≡ Some (record { dir = dir; name = name.now; inode = number }) }
         requires free { find (is_named to new_name.now) self.old ≡ None }
         requires unique { AllPairs AreApart self.old }
-        requires one_name { AllPairs LeadsBelow self.old }
         ensures ok { OnOk result (self.new ≡ map (moved dir name.now to new_name.now) self.old) }
         ensures err { OnErr result (self.new ≡ self.old) }
     {
-        let new_name = new_name.to_vec(self.alloc)?;
-        reserve(&mut self.dirs, self.alloc, to as usize)?;
-        insert(&mut self.dirs, to as usize, new_name, number)?;
-        remove(&mut self.dirs, dir as usize, name);
-        self.parents.set(number, Some(to));
+        let entry = Entry::new(to, new_name.to_vec(self.alloc)?);
+        self.counts.reserve(to)?;
+        self.table.note(&self.entries, &entry, number)?;
+        self.table.forget(dir, name);
+        self.entries.set(number, Some(entry));
+        self.counts.subtract(dir);
+        self.counts.add(to);
         Ok(())
     }
-}
-
-// Makes a directory with no name at each number, up to this one, that has none.
-fn reserve(dirs: &mut Vec<Dir>, alloc: Global, dir: usize) -> Result<(), NoMemory>
-    ensures same { NamesSame dirs.old.items dirs.new.items }
-    ensures ok { OnOk result (dir < length dirs.new.items) }
-{
-    while dirs.len() <= dir {
-        dirs.push(Dir::new(alloc))?;
-    }
-    Ok(())
-}
-
-// Adds a name to a directory.
-fn insert(dirs: &mut Vec<Dir>, dir: usize, name: Vec<u8>, number: u32) -> Result<(), NoMemory>
-    requires room { dir < length dirs.old.items }
-    requires free { number_in dirs.old.items dir name.items ≡ None }
-    ensures ok { OnOk result (NamesOne dirs.old.items dirs.new.items
-        (record { dir = dir; name = name.items; inode = number })) }
-    ensures err { OnErr result (NamesSame dirs.old.items dirs.new.items) }
-{
-    dirs[dir].insert(name, number)
-}
-
-// Takes a name out of a directory, and gives the number that it led to.
-fn remove(dirs: &mut Vec<Dir>, dir: usize, name: &[u8]) -> Option<u32>
-    requires room { dir < length dirs.old.items }
-    ensures value { result ≡ number_in dirs.old.items dir name.now }
-    ensures some { IfSome result (λ number. NamesOne dirs.new.items dirs.old.items
-        (record { dir = dir; name = name.now; inode = number })) }
-    ensures gone { number_in dirs.new.items dir name.now ≡ None }
-{
-    dirs[dir].remove(name)
 }

@@ -1,5 +1,5 @@
 use Rattle.std.proofs.Common.{◌∙◌}
-use Rattle.fan_tree.proofs.Dirs.{number_kept}
+use Rattle.fan_tree.proofs.SpilledLemmas.{number_kept}
 use Rattle.fan_tree.proofs.dir.Dir.get.Goals as goal
 
 pub returns : goal.returns

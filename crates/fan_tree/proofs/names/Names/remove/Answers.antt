@@ -1,31 +1,26 @@
 -- A name is taken out: the others stay.
-use Rattle.std.specs.Prelude.{None, filter, not, slice_set}
-use Rattle.fan_tree.specs.Names.{in_order}
-use Rattle.fan_tree.specs.Tree.{DirEntry, is_named}
-use Rattle.fan_tree.proofs.Keeping.{Keeps, taken, taken_within}
+use Rattle.fan_tree.proofs.Keeping.{left_kept, left_order, own_counted, own_within}
 use Rattle.fan_tree.proofs.names.Names.remove.Goals as goal
-use Rattle.fan_tree.proofs.names.Names.remove.Goals.{After-set}
 
 pub set-requires : goal.set-requires
 set-requires c =
-    let entry : DirEntry = record { dir = c.args.dir; name = c.args.name.now; inode = c.args.number } in
-    taken_within c.self.inside.dirs.items c.remove.new.dirs.items c.self.inside.parents entry c.self.invariant
-    (rw c.self.view_is c.requires.there) (rw c.self.view_is c.requires.one_name)
-    (rw c.self.view_is c.requires.unique) c.remove.result c.remove.ensures.value c.remove.ensures.some
-    c.remove.ensures.gone
+    own_within c.self.inside.entries c.self.inside.table c.self.inside.counts c.args.dir c.args.name.now c.args.number
+    c.self.invariant (rw c.self.view_is c.requires.unique) (rw c.self.view_is c.requires.there)
 
-so : (c : After-set)
-    → Keeps c.remove.new.dirs.items (slice_set c.self.inside.parents c.args.number None)
-    (filter (λ one. not (is_named c.args.dir c.args.name.now one)) (in_order c.self.inside.dirs.items))
-so c =
-    let entry : DirEntry = record { dir = c.args.dir; name = c.args.name.now; inode = c.args.number } in
-    taken c.self.inside.dirs.items c.remove.new.dirs.items c.self.inside.parents entry c.self.invariant
-    (rw c.self.view_is c.requires.there) (rw c.self.view_is c.requires.one_name)
-    (rw c.self.view_is c.requires.unique) c.remove.result c.remove.ensures.value c.remove.ensures.some
-    c.remove.ensures.gone
+pub subtract-requires : goal.subtract-requires
+subtract-requires c =
+    own_counted c.self.inside.entries c.self.inside.table c.self.inside.counts c.args.dir c.args.name.now c.args.number
+    c.self.invariant (rw c.self.view_is c.requires.unique) (rw c.self.view_is c.requires.there)
 
 pub invariant_of-self : goal.invariant_of-self
-invariant_of-self c = rw c.set.ensures (so c).kept
+invariant_of-self c =
+    rw (c.subtract.ensures, c.set.ensures)
+    (left_kept c.self.inside.entries c.self.inside.table c.self.inside.counts c.args.dir c.args.name.now
+    c.args.number c.self.invariant (rw c.self.view_is c.requires.unique) (rw c.self.view_is c.requires.there)
+    c.forget.new.self (c.forget.ensures c.self.inside.entries))
 
 pub returns : goal.returns
-returns c = rw (← c.self.view_is) (so c).order
+returns c =
+    rw (← c.self.view_is, c.set.ensures)
+    (left_order c.self.inside.entries c.self.inside.table c.self.inside.counts c.args.dir c.args.name.now
+    c.args.number c.self.invariant (rw c.self.view_is c.requires.unique) (rw c.self.view_is c.requires.there))

@@ -1,48 +1,63 @@
 -- The new name stands in the place of the old one.
-use Rattle.std.specs.Prelude.{Some, map, slice_set}
-use Rattle.fan_tree.specs.Changes.{moved}
-use Rattle.fan_tree.specs.Names.{in_order}
-use Rattle.fan_tree.specs.Tree.{DirEntry}
-use Rattle.fan_tree.proofs.Keeping.{Keeps, moved_room, moved_so, moved_within}
+use Rattle.std.proofs.Common.{◌≡◌, true}
+use Rattle.fan_tree.specs.Table.{AreKept, is_known}
+use Rattle.fan_tree.proofs.Keeping.{few_less, kept_renamed, moved_kept, moved_order, own_counted, own_within}
 use Rattle.fan_tree.proofs.names.Names.rename.Goals as goal
-use Rattle.fan_tree.proofs.names.Names.rename.Goals.{After-set}
+use Rattle.fan_tree.proofs.names.Names.rename.Goals.{After-add}
 
-pub remove-requires : goal.remove-requires
-remove-requires c =
-    let from : DirEntry = record { dir = c.args.dir; name = c.args.name.now; inode = c.args.number } in
-    let name = c.in_ok-new_name.ensures.items_if_clones_equal (λ x y same. same) in
-    record {
-      room = moved_room c.self.inside.dirs.items c.reserve.new.dirs.items c.insert.new.dirs.items
-          c.insert.new.dirs.items c.self.inside.parents from c.args.to c.args.new_name.now c.self.invariant
-          (rw c.self.view_is c.requires.there) (rw c.self.view_is c.requires.free)
-          (rw c.self.view_is c.requires.one_name) (rw c.self.view_is c.requires.unique) c.reserve.ensures.same
-          (rw name at c.in_ok-insert.ensures.ok);
-    }
+pub invariant_of-self-in_err-note : goal.invariant_of-self-in_err-note
+invariant_of-self-in_err-note c =
+    let name = c.in_ok-to_vec.ensures.items_if_clones_equal (λ x y same. same) in
+    kept_renamed c.self.inside.entries c.self.inside.table c.note.new.self c.self.inside.counts c.reserve.new.self
+    c.args.to c.args.new_name.now c.self.invariant c.reserve.ensures.same (rw c.self.view_is c.requires.free)
+    (rw (c.new-entry.ensures, name) at c.note.ensures.kept)
 
 pub set-requires : goal.set-requires
 set-requires c =
-    let from : DirEntry = record { dir = c.args.dir; name = c.args.name.now; inode = c.args.number } in
-    let name = c.in_ok-new_name.ensures.items_if_clones_equal (λ x y same. same) in
-    moved_within c.self.inside.dirs.items c.reserve.new.dirs.items c.insert.new.dirs.items c.remove.new.dirs.items
-    c.self.inside.parents from c.args.to c.args.new_name.now c.self.invariant (rw c.self.view_is c.requires.there)
-    (rw c.self.view_is c.requires.free) (rw c.self.view_is c.requires.one_name)
-    (rw c.self.view_is c.requires.unique) c.reserve.ensures.same (rw name at c.in_ok-insert.ensures.ok)
-    c.remove.result c.remove.ensures.value c.remove.ensures.some c.remove.ensures.gone
+    own_within c.self.inside.entries c.self.inside.table c.self.inside.counts c.args.dir c.args.name.now c.args.number
+    c.self.invariant (rw c.self.view_is c.requires.unique) (rw c.self.view_is c.requires.there)
 
-so : (c : After-set)
-    → Keeps c.remove.new.dirs.items (slice_set c.self.inside.parents c.args.number (Some c.args.to))
-    (map (moved c.args.dir c.args.name.now c.args.to c.args.new_name.now) (in_order c.self.inside.dirs.items))
-so c =
-    let from : DirEntry = record { dir = c.args.dir; name = c.args.name.now; inode = c.args.number } in
-    let name = c.in_ok-new_name.ensures.items_if_clones_equal (λ x y same. same) in
-    moved_so c.self.inside.dirs.items c.reserve.new.dirs.items c.insert.new.dirs.items c.remove.new.dirs.items
-    c.self.inside.parents from c.args.to c.args.new_name.now c.self.invariant (rw c.self.view_is c.requires.there)
-    (rw c.self.view_is c.requires.free) (rw c.self.view_is c.requires.one_name)
-    (rw c.self.view_is c.requires.unique) c.reserve.ensures.same (rw name at c.in_ok-insert.ensures.ok)
-    c.remove.result c.remove.ensures.value c.remove.ensures.some c.remove.ensures.gone
+pub subtract-requires : goal.subtract-requires
+subtract-requires c =
+    rw (c.reserve.ensures.same c.args.dir)
+    (own_counted c.self.inside.entries c.self.inside.table c.self.inside.counts c.args.dir c.args.name.now
+    c.args.number c.self.invariant (rw c.self.view_is c.requires.unique) (rw c.self.view_is c.requires.there))
+
+pub add-requires-clause-few : goal.add-requires-clause-few
+add-requires-clause-few c =
+    let name = c.in_ok-to_vec.ensures.items_if_clones_equal (λ x y same. same) in
+    rw c.subtract.ensures
+    (few_less c.self.inside.entries c.note.new.self c.reserve.new.self c.args.dir c.args.name.now c.args.number
+    (kept_renamed c.self.inside.entries c.self.inside.table c.note.new.self c.self.inside.counts
+    c.reserve.new.self c.args.to c.args.new_name.now c.self.invariant c.reserve.ensures.same
+    (rw c.self.view_is c.requires.free) (rw (c.new-entry.ensures, name) at c.note.ensures.kept))
+    (rw c.self.view_is c.requires.unique) (rw c.self.view_is c.requires.there) c.args.to c.args.new_name.now
+    (rw c.self.view_is c.requires.free))
+
+-- all is kept, and there is room for the new name, before the entry is moved
+kept : (c : After-add) → AreKept c.self.inside.entries c.note.new.self c.reserve.new.self
+kept c =
+    let name = c.in_ok-to_vec.ensures.items_if_clones_equal (λ x y same. same) in
+    kept_renamed c.self.inside.entries c.self.inside.table c.note.new.self c.self.inside.counts c.reserve.new.self
+    c.args.to c.args.new_name.now c.self.invariant c.reserve.ensures.same (rw c.self.view_is c.requires.free)
+    (rw (c.new-entry.ensures, name) at c.note.ensures.kept)
 
 pub invariant_of-self-2 : goal.invariant_of-self-2
-invariant_of-self-2 c = rw c.set.ensures (so c).kept
+invariant_of-self-2 c =
+    let name = c.in_ok-to_vec.ensures.items_if_clones_equal (λ x y same. same) in
+    let known : is_known c.note.new.self c.args.number (record { dir = c.args.to; name = c.args.new_name.now })
+    ≡ true =
+    rw (c.new-entry.ensures, name) at c.in_ok-note.ensures.known in
+    rw (c.add.ensures, c.subtract.ensures, c.set.ensures, c.new-entry.ensures, name)
+    (moved_kept c.self.inside.entries c.note.new.self c.reserve.new.self c.args.dir c.args.name.now c.args.number
+    (kept c) (rw c.self.view_is c.requires.unique) (rw c.self.view_is c.requires.there) c.args.to
+    c.args.new_name.now (rw c.self.view_is c.requires.free) c.forget.new.self c.forget.ensures known
+    c.in_ok-reserve.ensures.ok)
 
 pub returns-clause-ok : goal.returns-clause-ok
-returns-clause-ok c = rw (← c.self.view_is) (so c).order
+returns-clause-ok c =
+    let name = c.in_ok-to_vec.ensures.items_if_clones_equal (λ x y same. same) in
+    rw (← c.self.view_is, c.set.ensures, c.new-entry.ensures, name)
+    (moved_order c.self.inside.entries c.note.new.self c.reserve.new.self c.args.dir c.args.name.now c.args.number
+    (kept c) (rw c.self.view_is c.requires.unique) (rw c.self.view_is c.requires.there) c.args.to
+    c.args.new_name.now (rw c.self.view_is c.requires.free))

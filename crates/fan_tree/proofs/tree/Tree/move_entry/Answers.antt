@@ -1,5 +1,5 @@
 -- The entry goes, and its inode stays.
-use Rattle.fan_tree.proofs.Entries.{in_either}
+use Rattle.fan_tree.proofs.EntryLemmas.{in_either}
 use Rattle.fan_tree.proofs.Moving.{moved_is}
 use Rattle.fan_tree.proofs.tree.Tree.move_entry.Goals as goal
 
