@@ -1,5 +1,5 @@
 -- The effect of a change on the objects of a block, from the marks before and after it.
-use Rattle.std.proofs.Common.{◌≡◌, ◌∙◌, ℕ, ◌+◌, ◌*◌, ◌/◌, ◌^◌, ◌<◌, zero, suc, Bool, true, false, cond, List, [], ◌∷◌, length, refl, sym, ap, subst, arith}
+use Rattle.std.proofs.Common.{◌≡◌, ◌∙◌, ℕ, ◌+◌, ◌*◌, ◌/◌, ◌^◌, ◌<◌, zero, suc, Bool, true, false, List, [], ◌∷◌, length, refl, sym, ap, subst, arith}
 use Rattle.std.proofs.lemmas.Bool.Decides.{nat_tests}
 use Rattle.std.proofs.lemmas.List.Elements.{filter-append}
 use Rattle.std.proofs.lemmas.List.Sums.{length-filter}
@@ -9,8 +9,9 @@ use Rattle.std.specs.Prelude.{count_by, not, ◌==◌, ◌||◌}
 use Rattle.fan_bits.specs.declared.mark.Mark.{Mark}
 use Rattle.fan_bits.specs.Marks.{gone, on, same_mark}
 use Rattle.fan_bits.proofs.Lists.{any_wider, filter_within, filters_swap}
-use Rattle.fan_lists.proofs.Counts.{count_by-cons, count_by_agree}
+use Rattle.fan_lists.proofs.Counts.{count_by_agree}
 use Rattle.fan_rows.specs.Costs.{altered}
+use Rattle.fan_rows.proofs.Counting.{parts_at}
 use Rattle.fan_build.specs.declared.effect.Effect.{Effect}
 use Rattle.fan_build.specs.declared.effect.Effects.{Effects}
 use Rattle.fan_build.specs.Edits.{has_any, no_effect}
@@ -115,40 +116,12 @@ any_four depth block marks =
     ∙ ap (λ b. b || list_any (w 3) marks) (any_or (λ mark. w 0 mark || w 1 mark) (w 2) marks
     ∙ ap (λ b. b || list_any (w 2) marks) (any_or (w 0) (w 1) marks))
 
-one_count : (n block : ℕ) → cond (n / 4 == block) 1 0
-    ≡ cond (n == 4 * block + 0) 1 0
-    + cond (n == 4 * block + 1) 1 0
-    + cond (n == 4 * block + 2) 1 0
-    + cond (n == 4 * block + 3) 1 0
-one_count n block = grind (arith, nat_tests)
-
 pub count_four : (depth block : ℕ) (marks : List Mark) → count_by (is_within (suc depth) block) marks
     ≡ count_by (is_within depth (4 * block + 0)) marks
     + count_by (is_within depth (4 * block + 1)) marks
     + count_by (is_within depth (4 * block + 2)) marks
     + count_by (is_within depth (4 * block + 3)) marks
-count_four depth block [] = refl
-count_four depth block (mark ∷ marks) =
-    let quotient : mark.object / 4 ^ depth / 4 ≡ mark.object / (4 ^ depth * 4) =
-    div-div-eq-div-mul mark.object (4 ^ depth) 4 in
-    let same : mark.object / 4 ^ suc depth ≡ mark.object / 4 ^ depth / 4 =
-    ap (λ n. mark.object / n) (pow-suc 4 depth) ∙ sym quotient in
-    let here : cond (mark.object / 4 ^ suc depth == block) 1 0
-    ≡ cond (mark.object / 4 ^ depth == 4 * block + 0) 1 0
-    + cond (mark.object / 4 ^ depth == 4 * block + 1) 1 0
-    + cond (mark.object / 4 ^ depth == 4 * block + 2) 1 0
-    + cond (mark.object / 4 ^ depth == 4 * block + 3) 1 0 =
-    ap (λ n. cond (n == block) 1 0) same ∙ one_count (mark.object / 4 ^ depth) block in
-    omega (
-      arith,
-      here,
-      count_four depth block marks,
-      count_by-cons (is_within (suc depth) block) mark marks,
-      count_by-cons (is_within depth (4 * block + 0)) mark marks,
-      count_by-cons (is_within depth (4 * block + 1)) mark marks,
-      count_by-cons (is_within depth (4 * block + 2)) mark marks,
-      count_by-cons (is_within depth (4 * block + 3)) mark marks,
-    )
+count_four depth block marks = parts_at (λ (mark : Mark). mark.object) depth block marks
 
 module _ (old new : List Mark) where
   abbrev part : ℕ → ℕ → ℕ → Effect

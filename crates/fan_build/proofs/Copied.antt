@@ -8,13 +8,14 @@ use Rattle.std.proofs.lemmas.List.Sums.{sum_by-cons}
 use Rattle.std.proofs.lemmas.Option.{IfSome_then}
 use Rattle.std.proofs.Math.Nat.{div-div-eq-div-mul, div-one, pow-suc}
 use Rattle.std.specs.List.{list_any}
-use Rattle.std.specs.Prelude.{All, IfSome, filter, nat_lt, not, sum_by, ◌==◌, ◌&&◌, ◌||◌}
+use Rattle.std.specs.Prelude.{All, IfSome, filter, nat_lt, not, sum_by, ◌==◌, ◌&&◌}
 use Rattle.fan_bits.specs.declared.change.Change.{Change}
 use Rattle.fan_bits.specs.declared.change.Change.TheVariants.{Put, Flush, Clear, DropGroup, DropObject}
 use Rattle.fan_bits.specs.declared.mark.Mark.{Mark}
 use Rattle.fan_bits.specs.Marks.{IsChange, IsMarkList, changed, listed, on, order_number, order_of, updated}
 use Rattle.fan_bits.proofs.Updates.{put_mark_keeps}
 use Rattle.fan_rows.specs.Costs.{altered, copied_between, copied_on, copied_rows, in_either, objects_of, upto}
+use Rattle.fan_rows.proofs.Counting.{any_object, from_either, or_right}
 use Rattle.fan_build.specs.declared.effect.Effect.{Effect}
 use Rattle.fan_build.specs.Edits.{edited, has_any, is_at, is_past, kept}
 use Rattle.fan_build.specs.Needs.{is_within, needed_between, needed_on, needed_rows, needed_within}
@@ -213,37 +214,6 @@ few_for change old connector fits = by (list_any (is_at change) old) refl
               (new_fresh change old fits is),
           many p old (filter (is_fresh old) (edited change old)),
         )
-
--- ---- the objects of altered marks
-
-or_right : (b c : Bool) → c ≡ true → (b || c) ≡ true
-or_right true c is = refl
-or_right false c is = is
-
-from_either : {P : Type 0} (b c : Bool) → (b || c) ≡ true → (b ≡ true → P) → (c ≡ true → P) → P
-from_either true c some left right = left refl
-from_either false c some left right = right some
-
-any_equal : (test : ℕ → Bool) (object : ℕ) (objects : List ℕ)
-    → list_any (λ other. other == object) objects ≡ true → test object ≡ true → list_any test objects ≡ true
-any_equal test object [] some passes = absurd (false≢true some)
-any_equal test object (other ∷ objects) some passes =
-    from_either (other == object) (list_any (λ other. other == object) objects) some
-    (λ is. rw (ap test (eqb-true other object is) ∙ passes) refl)
-    (λ later. or_right (test other) (list_any test objects) (any_equal test object objects later passes))
-
-any_object : (test : ℕ → Bool) (marks : List Mark) → list_any (λ mark. test mark.object) marks ≡ true
-    → list_any test (objects_of marks) ≡ true
-any_object test [] some = some
-any_object test (mark ∷ marks) some =
-    let objects = objects_of marks in
-    let rest = list_any (λ (mark : Mark). test mark.object) marks in
-    cond_both (list_any (λ object. object == mark.object) objects) objects (mark.object ∷ objects)
-    (λ all. list_any test all ≡ true)
-    (λ there. from_either (test mark.object) rest some (any_equal test mark.object objects there)
-    (any_object test marks))
-    (λ new. from_either (test mark.object) rest some (λ is. rw is refl)
-    (λ later. or_right (test mark.object) (list_any test objects) (any_object test marks later)))
 
 -- a number is at most another one
 at_most : (a b c : ℕ) → a ≤ b → b ≤ c → a ≤ c

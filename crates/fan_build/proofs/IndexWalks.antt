@@ -1,5 +1,5 @@
 -- The walk that makes a tree anew, at an index row.
-use Rattle.std.proofs.Common.{◌≡◌, ◌∙◌, ℕ, ◌+◌, ◌*◌, ◌<◌, ◌≤◌, zero, suc, Bool, true, false, cond, List, [], ◌++◌, Option, length, refl, sym, ap, subst, arith, length-append}
+use Rattle.std.proofs.Common.{◌≡◌, ◌≢◌, ◌∙◌, ℕ, ◌+◌, ◌-◌, ◌*◌, ◌<◌, ◌≤◌, zero, suc, Bool, true, false, cond, List, [], ◌++◌, Option, length, refl, sym, ap, subst, arith, length-append}
 use Rattle.std.proofs.lemmas.Bool.{false≢true}
 use Rattle.std.specs.Prelude.{IsSome, not, ◌==◌, ◌&&◌, ◌||◌}
 use Rattle.fan_rows.specs.Rows.{Rows, times}
@@ -21,7 +21,7 @@ use Rattle.fan_build.proofs.IndexSteps.{own_times}
 use Rattle.fan_build.proofs.Quiet.{all_fail, tree_quiet}
 use Rattle.fan_build.proofs.TreeEffects.{four_few, tree_few}
 use Rattle.fan_build.proofs.TreeRows.{children_length, children_times, four_rows, index_word, left_below}
-use Rattle.fan_build.proofs.Trees.{lies_child}
+use Rattle.fan_build.proofs.Trees.{lies_child, one_more}
 
 -- one step's counts after another's
 pub counts_on : (old more new gone next more_next new_next gone_next : List ℕ) → Counts old more new gone
@@ -42,6 +42,41 @@ both : (b c : Bool) → ◌≡◌ {A = ℕ} (cond (b && c) 1 0) (cond b (cond c 
 both true c = refl
 both false c = refl
 
+-- an index row is deep where there are index rows below
+pub deepen : {words : ℕ → Option ℕ} {rows : Rows} {edit : Edit} {depth digit row : ℕ} {tree : Tree}
+    → TreeBefore words rows edit depth digit row tree → depth ≢ 0
+    → TreeBefore words rows edit (suc (depth - 1)) digit row tree
+deepen {words} {rows} {edit} {depth} {digit} {row} {tree} before some =
+    subst (λ n. TreeBefore words rows edit n digit row tree) (one_more depth some) before
+
+pub come_deep : {words : ℕ → Option ℕ} {rows : Rows} {edit : Edit} {depth digit row : ℕ} {tree : Tree}
+    → TreeBefore words rows edit depth digit row tree → depth ≢ 0 → goes edit.scope row depth digit ≡ true
+    → goes edit.scope row (suc (depth - 1)) digit ≡ true
+come_deep {words} {rows} {edit} {depth} {digit} {row} before some comes =
+    subst (λ n. goes edit.scope row n digit ≡ true) (one_more depth some) comes
+
+pub flatten : {words later : ℕ → Option ℕ} {rows after : Rows} {edit : Edit} {depth digit : ℕ} {tree : Tree}
+    {made : Made} → depth ≢ 0 → TreeMade words later rows after edit (suc (depth - 1)) digit tree made
+    → TreeMade words later rows after edit depth digit tree made
+flatten {words} {later} {rows} {after} {edit} {depth} {digit} {tree} {made} some is =
+    subst (λ n. TreeMade words later rows after edit n digit tree made) (sym (one_more depth some)) is
+
+-- a tree that is made after a look at the words was made of what stood before it
+pub made_of : {words looked later : ℕ → Option ℕ} {rows kept after : Rows} {edit : Edit}
+    {depth digit row : ℕ} {tree : Tree} {made : Made} → looked ≡ words → kept ≡ rows
+    → (TreeBefore looked kept edit depth digit row tree
+    → TreeMade looked later kept after edit depth digit tree made)
+    → TreeBefore words rows edit depth digit row tree
+    → TreeMade words later rows after edit depth digit tree made
+made_of {words} {looked} {later} {rows} {kept} {after} {edit} {depth} {digit} {row} {tree} {made} same_words
+    same_rows ensures =
+    let first : TreeBefore looked rows edit depth digit row tree
+    → TreeMade looked later rows after edit depth digit tree made =
+    subst (λ r. TreeBefore looked r edit depth digit row tree
+    → TreeMade looked later r after edit depth digit tree made) same_rows ensures in
+    subst (λ w. TreeBefore w rows edit depth digit row tree
+    → TreeMade w later rows after edit depth digit tree made) same_words first
+
 -- what holds at four digits
 four_cases : (P : ℕ → Type 0) → P 0 → P 1 → P 2 → P 3 → (digit : ℕ) → digit < 4 → P digit
 four_cases P a b c d zero small = a
@@ -50,7 +85,7 @@ four_cases P a b c d (suc (suc zero)) small = c
 four_cases P a b c d (suc (suc (suc zero))) small = d
 four_cases P a b c d (suc (suc (suc (suc digit)))) small = absurd (omega arith)
 
-module _ (words : ℕ → Option ℕ) (rows : Rows) (edit : Edit) (low digit row : ℕ) (tree : Tree)
+module _ {words : ℕ → Option ℕ} {rows : Rows} {edit : Edit} {low digit row : ℕ} {tree : Tree}
     (before : TreeBefore words rows edit (suc low) digit row tree)
     (comes : goes edit.scope row (suc low) digit ≡ true) where
   test : goes edit.scope (top tree) (suc low) digit ≡ true
@@ -110,13 +145,13 @@ module _ (words : ℕ → Option ℕ) (rows : Rows) (edit : Edit) (low digit row
     possible = before.possible test k small;
   }
 
-  module _ (below : Below) (are : AreBelow tree below) where
+  module _ {below : Below} (are : AreBelow tree below) where
     pub before_0 : TreeBefore words rows edit low 0 below.first (child tree 0)
     before_0 =
         child_before 0 (omega arith) words rows [] [] [] [] (grown_none words rows) (λ one. refl)
         (λ one. omega (arith, own_all one)) (omega (arith, all_taken)) below.first are.first_is
 
-    module _ (w1 : ℕ → Option ℕ) (r1 : Rows) (p0 : Made)
+    module _ {w1 : ℕ → Option ℕ} {r1 : Rows} {p0 : Made}
         (m0 : TreeMade words w1 rows r1 edit low 0 (child tree 0) p0) where
       pub before_1 : TreeBefore w1 r1 edit low 1 below.second (child tree 1)
       before_1 =
@@ -124,7 +159,7 @@ module _ (words : ℕ → Option ℕ) (rows : Rows) (edit : Edit) (low digit row
           (λ one. omega (arith, own_all one)) (omega (arith, all_taken, m0.taken_is)) below.second
           are.second_is
 
-      module _ (w2 : ℕ → Option ℕ) (r2 : Rows) (p1 : Made)
+      module _ {w2 : ℕ → Option ℕ} {r2 : Rows} {p1 : Made}
           (m1 : TreeMade w1 w2 r1 r2 edit low 1 (child tree 1) p1) where
         abbrev more_2 : List ℕ
         more_2 = m0.more ++ m1.more
@@ -149,7 +184,7 @@ module _ (words : ℕ → Option ℕ) (rows : Rows) (edit : Edit) (low digit row
             (omega (arith, all_taken, length-append m0.more m1.more, m0.taken_is, m1.taken_is)) below.third
             are.third_is
 
-        module _ (w3 : ℕ → Option ℕ) (r3 : Rows) (p2 : Made)
+        module _ {w3 : ℕ → Option ℕ} {r3 : Rows} {p2 : Made}
             (m2 : TreeMade w2 w3 r2 r3 edit low 2 (child tree 2) p2) where
           abbrev more_3 : List ℕ
           more_3 = more_2 ++ m2.more
@@ -189,7 +224,7 @@ module _ (words : ℕ → Option ℕ) (rows : Rows) (edit : Edit) (low digit row
                 m2.taken_is,
               )) below.fourth are.fourth_is
 
-          module _ (w4 : ℕ → Option ℕ) (r4 : Rows) (p3 : Made)
+          module _ {w4 : ℕ → Option ℕ} {r4 : Rows} {p3 : Made}
               (m3 : TreeMade w3 w4 r3 r4 edit low 3 (child tree 3) p3) where
             abbrev more_4 : List ℕ
             more_4 = more_3 ++ m3.more
@@ -441,10 +476,10 @@ module _ (words : ℕ → Option ℕ) (rows : Rows) (edit : Edit) (low digit row
                     );
                   }
 
-              pub all_made : (w5 : ℕ → Option ℕ) (r5 : Rows) (made : Made)
+              pub all_made : {w5 : ℕ → Option ℕ} {r5 : Rows} {made : Made}
                   → IndexMade w4 w5 r4 r5 low row parts m0.new m1.new m2.new m3.new made
                   → TreeMade words w5 rows r5 edit (suc low) digit tree made
-              all_made w5 r5 made is =
+              all_made {w5} {r5} {made} is =
                   let lengths = subst (λ r. length (rows_of tree) ≡ length (own_row r) + length (at 0)
                   + length (at 1) + length (at 2) + length (at 3)) before.top_is
                   (children_length words low tree before.lies) in

@@ -11,6 +11,7 @@ use Rattle.fan_bits.specs.Marks.{IsMark, changed, gone, on, retired, same_mark}
 use Rattle.fan_lists.proofs.Filters.{filter_all}
 use Rattle.fan_rows.specs.Rows.{Rows, times}
 use Rattle.fan_rows.specs.Trees.{Pictures, PicturesBy, Tree, chain_at, digits, digits_at, marks_in, places, rows_of, top}
+use Rattle.fan_rows.proofs.Counting.{Told}
 use Rattle.fan_rows.proofs.SameLists.{one_list}
 use Rattle.fan_rows.proofs.TreeLemmas.{kept_picture, one_tree}
 use Rattle.fan_build.specs.declared.edit.Edit.{Edit}
@@ -28,7 +29,7 @@ use Rattle.fan_build.specs.Steps.{TreeBefore, TreeMade}
 use Rattle.fan_build.proofs.Blocks.{list_effect, unaltered, whole_range}
 use Rattle.fan_build.proofs.Growing.{apart_after, keeps}
 use Rattle.fan_build.proofs.Scopes.{makes_change, makes_change_on}
-use Rattle.fan_build.proofs.TreeNeeds.{OnPath, Told, tree_can, tree_edited, tree_told}
+use Rattle.fan_build.proofs.TreeNeeds.{OnPath, tree_can, tree_edited, tree_told}
 
 -- a picture tells the marks on all objects
 root_told : (words : ℕ → Option ℕ) (root : ℕ) (tree : Tree) (marks : List Mark)

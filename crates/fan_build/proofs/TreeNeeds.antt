@@ -8,6 +8,7 @@ use Rattle.std.specs.Prelude.{not, ◌==◌}
 use Rattle.fan_bits.specs.declared.mark.Mark.{Mark}
 use Rattle.fan_bits.specs.Marks.{on}
 use Rattle.fan_rows.specs.Trees.{Chain, Lies, Tree, chain_at, child, digits_at, links_of, marks_in, places, top}
+use Rattle.fan_rows.proofs.Counting.{Told, part_told}
 use Rattle.fan_build.specs.declared.edit.Edit.{Edit}
 use Rattle.fan_build.specs.declared.edit.Scope.{Scope}
 use Rattle.fan_build.specs.declared.edit.Scope.TheVariants.{Everywhere, Object, Nowhere}
@@ -23,22 +24,6 @@ use Rattle.fan_build.proofs.IndexSteps.{no_tree}
 use Rattle.fan_build.proofs.ObjectEdits.{connector_on}
 use Rattle.fan_build.proofs.TreeRows.{left_below}
 use Rattle.fan_build.proofs.Trees.{chain_of, lies_child}
-
--- a tree tells the marks on the objects of a block
-abbrev pub Told : List Mark → ℕ → ℕ → Tree → Type 0
-Told marks depth block tree =
-    (object : ℕ) → object / 4 ^ depth ≡ block → object < 2 ^ 16
-    → marks_in (chain_at tree (digits_at object (places depth))) ≡ on object marks
-
-pub part_told : (marks : List Mark) (depth block digit : ℕ) (tree : Tree) → digit < 4
-    → Told marks (suc depth) block tree → Told marks depth (4 * block + digit) (child tree digit)
-part_told marks depth block digit tree small told object within bound =
-    let quotient : object / 4 ^ depth / 4 ≡ object / (4 ^ depth * 4) =
-    div-div-eq-div-mul object (4 ^ depth) 4 in
-    let whole : object / 4 ^ suc depth ≡ block = rw (pow-suc, ← quotient) (omega arith) in
-    let digit_is : object / 4 ^ depth % 4 ≡ digit = omega arith in
-    subst (λ n. marks_in (chain_at (child tree n) (digits_at object (places depth))) ≡ on object marks)
-    digit_is (told object whole bound)
 
 -- from the chain of no marks no digits lead anywhere
 pub nothing_at : (digits : List ℕ) → chain_at (Chain []) digits ≡ []

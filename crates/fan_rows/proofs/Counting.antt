@@ -58,7 +58,7 @@ module _ {X : Type 0} (number : X → ℕ) where
         count_by-cons (λ y. is_within size (4 * block + 3) (number y)) x xs,
       )
 
-  parts_at : (depth block : ℕ) (xs : List X) → within (4 ^ suc depth) block xs
+  pub parts_at : (depth block : ℕ) (xs : List X) → within (4 ^ suc depth) block xs
       ≡ within (4 ^ depth) (4 * block + 0) xs
       + within (4 ^ depth) (4 * block + 1) xs
       + within (4 ^ depth) (4 * block + 2) xs
@@ -67,16 +67,16 @@ module _ {X : Type 0} (number : X → ℕ) where
 
 -- ---- the objects of marks
 
-from_either : {P : Type 0} (b c : Bool) → (b || c) ≡ true → (b ≡ true → P) → (c ≡ true → P) → P
+pub from_either : {P : Type 0} (b c : Bool) → (b || c) ≡ true → (b ≡ true → P) → (c ≡ true → P) → P
 from_either true c some left right = left refl
 from_either false c some left right = right some
 
-or_right : (b c : Bool) → c ≡ true → (b || c) ≡ true
+pub or_right : (b c : Bool) → c ≡ true → (b || c) ≡ true
 or_right true c is = refl
 or_right false c is = is
 
 -- one that is in a list and passes
-any_equal : (test : ℕ → Bool) (object : ℕ) (objects : List ℕ)
+pub any_equal : (test : ℕ → Bool) (object : ℕ) (objects : List ℕ)
     → list_any (λ other. other == object) objects ≡ true → test object ≡ true → list_any test objects ≡ true
 any_equal test object [] some passes = absurd cc
 any_equal test object (other ∷ objects) some passes =
@@ -85,7 +85,7 @@ any_equal test object (other ∷ objects) some passes =
     (λ later. or_right (test other) (list_any test objects) (any_equal test object objects later passes))
 
 -- where a mark's object passes, one of the objects does
-any_object : (test : ℕ → Bool) (marks : List Mark) → list_any (λ mark. test mark.object) marks ≡ true
+pub any_object : (test : ℕ → Bool) (marks : List Mark) → list_any (λ mark. test mark.object) marks ≡ true
     → list_any test (objects_of marks) ≡ true
 any_object test [] some = some
 any_object test (mark ∷ marks) some =
@@ -141,24 +141,24 @@ add_up depth a b c d e f g h k l m n first second third fourth some = omega arit
 four_lengths : (a b c d : List ℕ) → length (a ++ b ++ c ++ d) ≡ length a + length b + length c + length d
 four_lengths a b c d = simp length-append (omega arith)
 
+-- a tree tells the marks on the objects of a block
+abbrev pub Told : List Mark → ℕ → ℕ → Tree → Type 0
+Told marks depth block tree =
+    (object : ℕ) → object / 4 ^ depth ≡ block → object < 2 ^ 16
+    → marks_in (chain_at tree (digits_at object (places depth))) ≡ on object marks
+
+-- one of the four trees of a branch tells of a part of the block
+pub part_told : (marks : List Mark) (depth block digit : ℕ) (tree : Tree) → digit < 4
+    → Told marks (suc depth) block tree → Told marks depth (4 * block + digit) (child tree digit)
+part_told marks depth block digit tree small told object within bound =
+    let quotient : object / 4 ^ depth / 4 ≡ object / (4 ^ depth * 4) =
+    div-div-eq-div-mul object (4 ^ depth) 4 in
+    let whole : object / 4 ^ suc depth ≡ block = rw (pow-suc, ← quotient) (omega arith) in
+    let digit_is : object / 4 ^ depth % 4 ≡ digit = omega arith in
+    subst (λ n. marks_in (chain_at (child tree n) (digits_at object (places depth))) ≡ on object marks)
+    digit_is (told object whole bound)
+
 module _ (words : ℕ → Option ℕ) (marks : List Mark) where
-  -- what a tree tells of the objects of a block
-  abbrev Told : ℕ → ℕ → Tree → Type 0
-  Told depth block tree =
-      (object : ℕ) → object / 4 ^ depth ≡ block → object < 2 ^ 16
-      → marks_in (chain_at tree (digits_at object (places depth))) ≡ on object marks
-
-  -- one of the four trees of a branch tells of a part of the block
-  part_told : (depth block digit : ℕ) (tree : Tree) → digit < 4 → Told (suc depth) block tree
-      → Told depth (4 * block + digit) (child tree digit)
-  part_told depth block digit tree small told object within bound =
-      let quotient : object / 4 ^ depth / 4 ≡ object / (4 ^ depth * 4) =
-      div-div-eq-div-mul object (4 ^ depth) 4 in
-      let whole : object / 4 ^ suc depth ≡ block = rw (pow-suc, ← quotient) (omega arith) in
-      let digit_is : object / 4 ^ depth % 4 ≡ digit = omega arith in
-      subst (λ n. marks_in (chain_at (child tree n) (digits_at object (places depth))) ≡ on object marks)
-      digit_is (told object whole bound)
-
   -- marks and objects within a block
   abbrev marks_within : ℕ → ℕ → ℕ
   marks_within depth block = within (λ (mark : Mark). mark.object) (4 ^ depth) block marks
@@ -175,7 +175,7 @@ module _ (words : ℕ → Option ℕ) (marks : List Mark) where
 
   -- the rows of a tree: an index row at each depth for each object at most, and one for each mark
   rows_within : (tree : Tree) (depth height block : ℕ) → depth + height ≡ 8 → block < 4 ^ height
-      → Lies words tree depth → Told depth block tree
+      → Lies words tree depth → Told marks depth block tree
       → length (rows_of tree) ≤ depth * objects_within depth block + marks_within depth block
   rows_within (Chain links) zero height block eight small lies told =
       let all : height ≡ 8 = omega arith in
@@ -199,13 +199,13 @@ module _ (words : ℕ → Option ℕ) (marks : List Mark) where
       let above : depth + suc height ≡ 8 = omega arith in
       let part_small : 4 * block + 3 < 4 ^ suc height = rw (pow-suc 4 height) (omega arith) in
       let first = rows_within a depth (suc height) (4 * block + 0) above (omega arith) lies.2
-      (part_told depth block 0 tree (omega arith) told) in
+      (part_told marks depth block 0 tree (omega arith) told) in
       let second = rows_within b depth (suc height) (4 * block + 1) above (omega arith) lies.3
-      (part_told depth block 1 tree (omega arith) told) in
+      (part_told marks depth block 1 tree (omega arith) told) in
       let third = rows_within c depth (suc height) (4 * block + 2) above (omega arith) lies.4
-      (part_told depth block 2 tree (omega arith) told) in
+      (part_told marks depth block 2 tree (omega arith) told) in
       let fourth = rows_within d depth (suc height) (4 * block + 3) above (omega arith) lies.5
-      (part_told depth block 3 tree (omega arith) told) in
+      (part_told marks depth block 3 tree (omega arith) told) in
       let objects = parts_at (λ object. object) depth block (objects_of marks) in
       let counted = parts_at (λ (mark : Mark). mark.object) depth block marks in
       let by = one_counts (objects_within (suc depth) block) (marks_within (suc depth) block)
