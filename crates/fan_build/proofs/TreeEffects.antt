@@ -1,5 +1,5 @@
 -- The effect of a change on a tree.
-use Rattle.std.proofs.Common.{◌≡◌, ◌≢◌, ℕ, ◌+◌, ◌-◌, ◌*◌, ◌≤◌, ◌<◌, ◌^◌, zero, suc, Bool, true, false, cond, Option, length, refl, sym, subst, arith, lit<}
+use Rattle.std.proofs.Common.{◌≡◌, ◌≢◌, ◌∙◌, ℕ, ◌+◌, ◌-◌, ◌*◌, ◌≤◌, ◌<◌, ◌^◌, zero, suc, Bool, true, false, cond, Option, length, refl, sym, subst, arith, lit<}
 use Rattle.std.proofs.lemmas.Bool.{cond_both}
 use Rattle.std.proofs.lemmas.List.{length-map}
 use Rattle.std.proofs.Math.Nat.{one-le-pow, pow-le-pow_right, pow-suc}
@@ -139,6 +139,19 @@ pub record FourAre (words : ℕ → Option ℕ) (edit : Edit) (depth : ℕ) (bel
   pub two : OneIs words edit depth 1 below.second all.second
   pub three : OneIs words edit depth 2 below.third all.third
   pub four : OneIs words edit depth 3 below.fourth all.fourth
+
+-- they are so if each was told of the same words
+pub four_are : (words : ℕ → Option ℕ) (edit : Edit) (depth : ℕ) (below : Below)
+    (first second third fourth : Effect) {w0 w1 w2 w3 : ℕ → Option ℕ} → w0 ≡ words → w1 ≡ w0 → w2 ≡ w1
+    → w3 ≡ w2 → OneIs w0 edit depth 0 below.first first → OneIs w1 edit depth 1 below.second second
+    → OneIs w2 edit depth 2 below.third third → OneIs w3 edit depth 3 below.fourth fourth
+    → FourAre words edit depth below (record { first = first; second = second; third = third; fourth = fourth })
+four_are words edit depth below first second third fourth s0 s1 s2 s3 one two three four = record {
+  one = subst (λ w. OneIs w edit depth 0 below.first first) s0 one;
+  two = subst (λ w. OneIs w edit depth 1 below.second second) (s1 ∙ s0) two;
+  three = subst (λ w. OneIs w edit depth 2 below.third third) (s2 ∙ s1 ∙ s0) three;
+  four = subst (λ w. OneIs w edit depth 3 below.fourth fourth) (s3 ∙ s2 ∙ s1 ∙ s0) four;
+}
 
 module _ (words : ℕ → Option ℕ) (edit : Edit) (depth : ℕ) (tree : Tree) (lies : Lies words tree depth)
     (some : depth ≢ 0) (below : Below) (are : AreBelow tree below) (all : Effects)
