@@ -3,24 +3,13 @@ use Rattle.std.proofs.Common.{◌≡◌, ℕ, Bool, true, false, Option, Some, N
 use Rattle.std.specs.Bool.{beq}
 use Rattle.std.proofs.lemmas.Bool.Decides.{nat_tests}
 use Rattle.fan_bits.specs.declared.class.Class.{Class}
-use Rattle.fan_bits.specs.declared.class.Class.TheVariants.{PreContent, Content, Notif}
 use Rattle.fan_bits.specs.declared.kind.Kind.{Kind}
 use Rattle.fan_bits.specs.declared.kind.Kind.TheVariants.{Inode, Mount, Filesystem}
 use Rattle.fan_bits.specs.declared.mark.Mark.{Mark}
 use Rattle.fan_bits.specs.Marks.{same_kind, same_mark}
 use Rattle.fan_bits.specs.Words.{rank_of}
+use Rattle.fan_rows.proofs.Codes.{one_class}
 use Rattle.fan_build.specs.Edits.{stays}
-
-class_exact : (class other : Class) → rank_of class ≡ rank_of other → class ≡ other
-class_exact PreContent PreContent is = refl
-class_exact Content Content is = refl
-class_exact Notif Notif is = refl
-class_exact PreContent Content is = absurd (omega arith)
-class_exact PreContent Notif is = absurd (omega arith)
-class_exact Content PreContent is = absurd (omega arith)
-class_exact Content Notif is = absurd (omega arith)
-class_exact Notif PreContent is = absurd (omega arith)
-class_exact Notif Content is = absurd (omega arith)
 
 kind_exact : (kind other : Kind) → same_kind kind other ≡ true → kind ≡ other
 kind_exact Inode Inode is = refl
@@ -71,7 +60,7 @@ same_mark_exact mark other is =
     let mask : mark.mask ≡ other.mask = grind (arith, nat_tests, is) in
     let ignored : mark.ignored ≡ other.ignored = grind (arith, nat_tests, is) in
     let flag : beq mark.survives other.survives ≡ true = grind (arith, nat_tests, is) in
-    same_fields _ _ _ _ _ _ _ _ _ _ _ _ _ _ group (class_exact _ _ rank) object
+    same_fields _ _ _ _ _ _ _ _ _ _ _ _ _ _ group (one_class _ _ rank) object
     (kind_exact _ _ kind) mask ignored
     (flag_exact _ _ flag)
 

@@ -16,7 +16,7 @@ one_kind kinds.Mount kinds.Mount same = refl
 one_kind kinds.Filesystem kinds.Filesystem same = refl
 one_kind a b same = absurd (omega arith)
 
-one_class : (a b : Class) → rank_of a ≡ rank_of b → a ≡ b
+pub one_class : (a b : Class) → rank_of a ≡ rank_of b → a ≡ b
 one_class classes.PreContent classes.PreContent same = refl
 one_class classes.Content classes.Content same = refl
 one_class classes.Notif classes.Notif same = refl

@@ -51,11 +51,15 @@ needed_below-requires-3 g t c κs within =
         search rules,
         (
           omega (arith, c.requires.depth),
-          (child tree 2, rw (
-            c.needed_below-2.ensures.words,
-            c.needed_below.ensures.words,
-            c.rows_below-below.ensures.words,
-          ) (lies_child words low 2 tree deep), are.third_is),
+          (
+            child tree 2,
+            rw (
+              c.needed_below-2.ensures.words,
+              c.needed_below.ensures.words,
+              c.rows_below-below.ensures.words,
+            ) (lies_child words low 2 tree deep),
+            are.third_is,
+          ),
         ),
       ),
     )
@@ -72,12 +76,16 @@ needed_below-requires-4 g t c κs within =
         search rules,
         (
           omega (arith, c.requires.depth),
-          (child tree 3, rw (
-            c.needed_below-3.ensures.words,
-            c.needed_below-2.ensures.words,
-            c.needed_below.ensures.words,
-            c.rows_below-below.ensures.words,
-          ) (lies_child words low 3 tree deep), are.fourth_is),
+          (
+            child tree 3,
+            rw (
+              c.needed_below-3.ensures.words,
+              c.needed_below-2.ensures.words,
+              c.needed_below.ensures.words,
+              c.rows_below-below.ensures.words,
+            ) (lies_child words low 3 tree deep),
+            are.fourth_is,
+          ),
         ),
       ),
     )
