@@ -1,0 +1,6 @@
+pub mod Empty
+pub mod Frames
+pub mod Making
+pub mod Numbers
+pub mod Sections
+pub mod Words
