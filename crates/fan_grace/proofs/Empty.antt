@@ -13,7 +13,7 @@ use Rattle.fan_build.specs.declared.publish.Built.{Built}
 use Rattle.fan_grace.specs.Stored.{CanMake, IsKept, IsKeptBy, IsMade, StoredState, given_below}
 
 -- from a chain without marks digits lead to no marks
-none_at : (digits : List ℕ) → chain_at (Chain []) digits ≡ []
+pub none_at : (digits : List ℕ) → chain_at (Chain []) digits ≡ []
 none_at [] = refl
 none_at (digit ∷ digits) = none_at digits
 

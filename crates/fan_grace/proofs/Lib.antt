@@ -1,5 +1,6 @@
 pub mod Empty
 pub mod Frames
+pub mod Hinted
 pub mod Making
 pub mod Numbers
 pub mod Sections

@@ -35,6 +35,15 @@ pub record Roomy (old mid : StoredState) (count : ℕ) : Type 0 where
   pub next : mid.next ≡ old.next
   pub retired : mid.retired ≡ old.retired
 
+pub room_made : (old mid : StoredState) (count needed : ℕ) → count ≡ needed
+    → mid.words ≡ old.words ++ replicate (4 * count) 0 → mid.next ≡ old.next → mid.retired ≡ old.retired
+    → Roomy old mid needed
+room_made old mid count needed is words next retired = record {
+  words = subst (λ n. mid.words ≡ old.words ++ replicate (4 * n) 0) is words;
+  next = next;
+  retired = retired;
+}
+
 module _ (old mid : StoredState) (root : ℕ) (marks : List Mark) (tree : Tree) (change : Change)
     (can : CanMake old root marks tree change) (above : 1 ≤ old.next)
     (roomy : Roomy old mid (needed_rows marks change)) where

@@ -1,2 +1,3 @@
+pub mod Hints
 pub mod Stored
 pub mod Tables

@@ -12,9 +12,11 @@
 #![tactic(auto)]
 
 mod cells;
+mod hints;
 mod section;
 mod stored;
 mod table;
+mod walk;
 
 pub use cells::TableCells;
 pub use section::Section;

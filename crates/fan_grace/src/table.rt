@@ -1,18 +1,22 @@
 // The table of marks: its sections, what they show, and changes.
-ghost use Rattle.std.specs.Prelude.{◌≡◌, ◌≢◌, ◌+◌, ◌<◌, ◌^◌, ◌++◌, ◌∷◌, ◌↔◌, [], true, List, IfOk, OnErr, OnOk, length, slice_get};
+ghost use Rattle.std.specs.Prelude.{◌≡◌, ◌≢◌, ◌+◌, ◌<◌, ◌^◌, ◌++◌, ◌∷◌, ◌↔◌, [], ℕ, true, List, IfOk, OnErr, OnOk, length, slice_get};
 ghost use Rattle.fan_bits.specs.declared.mark.Mark.{Mark};
-ghost use Rattle.fan_bits.specs.Marks.{IsChange, IsMarkList, changed, next_on, retired};
+ghost use Rattle.fan_bits.specs.Marks.{IsChange, IsMarkList, changed, next_on, order_of, retired};
 ghost use Rattle.fan_bits.specs.Places.{IsObject};
-ghost use Rattle.fan_rows.specs.Trees.{Pictures};
+ghost use Rattle.fan_rows.specs.Rows.{MarkAt};
+ghost use Rattle.fan_rows.specs.Trees.{Lies, Pictures, Tree, top};
 ghost use Rattle.fan_grace.specs.declared.section.Section.{Section};
-ghost use Rattle.fan_grace.specs.Tables.{IsInside, Present, Shows};
+ghost use Rattle.fan_grace.specs.Hints.{IsStart};
+ghost use Rattle.fan_grace.specs.Tables.{IsInside, Present, Shows, word_at};
 
 use super::cells::TableCells;
+use super::hints::{Hint, Hints};
 use super::section::Section;
 use super::stored::StoredRows;
-use fan_bits::{Change, Changed, Connectors, Mark, Order};
+use super::walk::row_above;
+use fan_bits::{Change, Changed, Mark, Order};
 use fan_io::NoMemory;
-use fan_rows::RowConnectors;
+use fan_rows::{RowConnectors, connector, mark_at};
 use std::alloc::Global;
 use std::marker::Model;
 
@@ -28,6 +32,8 @@ pub struct Table {
     root: u64,
     // How many sections are in.
     inside: u32,
+    // Where the last walks stood.
+    hints: Hints,
 }
 
 impl Model for Table {
@@ -35,7 +41,7 @@ impl Model for Table {
 
     ghost Value = { TableState };
 
-    ghost use Rattle.fan_grace.specs.Stored.{IsKept};
+    ghost use Rattle.fan_grace.specs.Hints.{IsTable};
 
     ghost view = { λ t. record {
       words = t.rows.words;
@@ -44,7 +50,7 @@ impl Model for Table {
       waiting = t.rows.retired;
     } };
 
-    ghost invariant = { λ t. IsKept t.rows t.root };
+    ghost invariant = { λ t. IsTable t.rows t.root t.hints.hints };
 }
 
 impl Table {
@@ -56,10 +62,12 @@ impl Table {
         ensures empty { IfOk result (λ table. Present table []) }
         ensures nobody { IfOk result (λ table. IsInside table []) }
     {
+        let rows = StoredRows::new(alloc)?;
         Ok(Table {
-            rows: StoredRows::new(alloc)?,
+            rows,
             root: 0,
             inside: 0,
+            hints: Hints::new(),
         })
     }
 
@@ -115,7 +123,41 @@ impl Table {
             → result ≡ next_on marks object after.0 }
         ensures same { self.new ≡ self.old }
     {
-        self.connectors(section).next(object, after)
+        let root = section.root;
+        let row = self.walk(root, object, after);
+        self.hints.keep(Hint {
+            root,
+            object,
+            low: after,
+            row,
+        });
+        if row == 0 {
+            return None;
+        }
+        Some(mark_at(&mut self.rows.cells(), row))
+    }
+
+    // The row of the first mark on an object behind an order, or 0.
+    fn walk(&self, root: u64, object: u32, after: Order) -> u64
+        requires { (tree : Tree) × Lies (word_at self.now) tree 8 × (top tree ≡ root) }
+        ensures walked { IsStart (word_at self.now) root object after.0 result }
+        ensures above { result ≢ 0 → (next : ℕ) (mark : Mark)
+            → MarkAt (word_at self.now) result next mark → after.0 < order_of mark }
+    {
+        let first = self.start(root, object, after);
+        row_above(&mut self.rows.cells(), first, after)
+    }
+
+    // The row at which a walk for a mark on an object begins: where the last one stood, if it went
+    // the same way, or else the object's first row.
+    fn start(&self, root: u64, object: u32, after: Order) -> u64
+        requires { (tree : Tree) × Lies (word_at self.now) tree 8 × (top tree ≡ root) }
+        ensures { IsStart (word_at self.now) root object after.0 result }
+    {
+        match self.hints.start(root, object, after) {
+            Some(row) => row,
+            None => connector(&mut self.rows.cells(), root, object),
+        }
     }
 
     /// Makes a change of the present marks. Each section goes on showing its marks.

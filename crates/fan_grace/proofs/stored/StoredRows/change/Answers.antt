@@ -1,10 +1,8 @@
-use Rattle.std.proofs.Common.{◌≡◌, ◌≤◌, ◌*◌, ◌++◌, replicate, List, sym, subst, arith, slice_get}
-use Rattle.fan_bits.specs.declared.mark.Mark.{Mark}
-use Rattle.fan_rows.specs.Trees.{Tree}
+use Rattle.std.proofs.Common.{◌≡◌, ◌≤◌, sym, subst, arith, slice_get}
 use Rattle.fan_build.specs.Needs.{needed_rows}
 use Rattle.fan_build.specs.Publishing.{CanChange}
-use Rattle.fan_grace.specs.Stored.{CanMake, IsStored}
-use Rattle.fan_grace.proofs.Making.{Published, Roomy, can_change, can_publish, made}
+use Rattle.fan_grace.specs.Stored.{IsStored}
+use Rattle.fan_grace.proofs.Making.{Published, can_change, can_publish, made, room_made}
 use Rattle.fan_grace.proofs.stored.StoredRows.change.Goals as goal
 
 pub rows_needed-needed-requires : goal.rows_needed-needed-requires
@@ -25,11 +23,8 @@ publish_rows-built-requires c =
     c.rows_needed-needed.ensures.number marks
     (subst (λ words. CanChange (slice_get words) c.args.root marks change) (sym c.cells-cells.ensures)
     (can_change old c.args.root marks c.requires.1 change c.requires.2)) in
-    let roomy : Roomy old mid (needed_rows marks change) = record {
-      words = subst (λ n. mid.words ≡ old.words ++ replicate (4 * n) 0) count c.in_ok-make_room.ensures.words;
-      next = c.make_room.ensures.next;
-      retired = c.make_room.ensures.retired;
-    } in
+    let roomy = room_made old mid c.rows_needed-needed.result (needed_rows marks change) count
+    c.in_ok-make_room.ensures.words c.make_room.ensures.next c.make_room.ensures.retired in
     let above : 1 ≤ old.next = omega (arith, c.make_room.ensures.stored.above, c.make_room.ensures.next) in (
       marks,
       can_publish old mid c.args.root marks c.requires.1 change c.requires.2 above roomy,
@@ -45,11 +40,8 @@ returns-clause-made c = λ marks tree can.
     c.rows_needed-needed.ensures.number marks
     (subst (λ words. CanChange (slice_get words) c.args.root marks change) (sym c.cells-cells.ensures)
     (can_change old c.args.root marks tree change can)) in
-    let roomy : Roomy old mid (needed_rows marks change) = record {
-      words = subst (λ n. mid.words ≡ old.words ++ replicate (4 * n) 0) count c.in_ok-make_room.ensures.words;
-      next = c.make_room.ensures.next;
-      retired = c.make_room.ensures.retired;
-    } in
+    let roomy = room_made old mid c.rows_needed-needed.result (needed_rows marks change) count
+    c.in_ok-make_room.ensures.words c.make_room.ensures.next c.make_room.ensures.retired in
     let above : 1 ≤ old.next = omega (arith, c.make_room.ensures.stored.above, c.make_room.ensures.next) in
     let publish = can_publish old mid c.args.root marks tree change can above roomy in
     let told = c.publish_rows-built.ensures in

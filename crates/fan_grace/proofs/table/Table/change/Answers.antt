@@ -1,77 +1,75 @@
-use Rattle.std.proofs.Common.{◌≡◌, ◌≢◌, ◌∙◌, true, false, not, List, nat_eq, length, ap, refl, sym, subst, arith, slice_get, eq-eqb, eqb-true}
-use Rattle.std.proofs.lemmas.Bool.{ne_eqb}
+use Rattle.std.proofs.Common.{List, refl, slice_get}
 use Rattle.fan_bits.specs.declared.mark.Mark.{Mark}
-use Rattle.fan_bits.specs.Marks.{IsMarkList, changed, retired}
+use Rattle.fan_bits.specs.Marks.{IsMarkList, changed}
 use Rattle.fan_rows.specs.Trees.{Pictures}
+use Rattle.fan_grace.specs.Stored.{IsMade}
 use Rattle.fan_grace.proofs.Empty.{can_make, differs, made_of}
 use Rattle.fan_grace.proofs.Frames.{still_pictures}
+use Rattle.fan_grace.proofs.Hinted.{hints_stay}
 use Rattle.fan_grace.proofs.Sections.{inside_later}
 use Rattle.fan_grace.proofs.table.Table.change.Goals as goal
 
 pub change-requires : goal.change-requires
 change-requires c =
-    let kept = c.self.invariant in
+    let kept = c.self.invariant.kept in
     let asks = rw (← c.self.view_is) at c.requires.possible in (
       kept.0,
       kept.1,
       can_make c.self.inside.rows c.self.inside.root kept asks.0 c.args.change.now asks.1.0 asks.1.1 asks.2,
     )
 
+-- what was made, of each list that is pictured
+made_of_marks : (c : goal.After-self-1) (marks : List Mark)
+    → Pictures (slice_get c.self.inside.rows.words) c.self.inside.root marks → IsMarkList marks
+    → IsMade c.self.inside.rows c.change.new.self c.self.inside.root marks c.args.change.now c.in_ok-built.built
+made_of_marks c =
+    let asks = rw (← c.self.view_is) at c.requires.possible in
+    made_of c.self.inside.rows c.change.new.self c.self.inside.root c.self.invariant.kept asks.0
+    c.args.change.now c.in_ok-built.built asks.1.0 asks.1.1 asks.2 c.in_ok-built.ensures.made
+
+-- and of the marks of the table
+made_now : (c : goal.After-self-1)
+    → IsMade c.self.inside.rows c.change.new.self c.self.inside.root c.self.invariant.kept.0 c.args.change.now
+    c.in_ok-built.built
+made_now c =
+    let kept = c.self.invariant.kept in
+    made_of_marks c kept.0 (kept.1, kept.2.pictured) kept.2.list
+
 pub invariant_of-self-2 : goal.invariant_of-self-2
 invariant_of-self-2 c =
-    let kept = c.self.invariant in
-    let asks = rw (← c.self.view_is) at c.requires.possible in
-    let can = can_make c.self.inside.rows c.self.inside.root kept asks.0 c.args.change.now asks.1.0 asks.1.1
-    asks.2 in
-    let made = c.in_ok-built.ensures.made kept.0 kept.1 can in
-    (changed kept.0 c.args.change.now, made.tree, made.kept)
+    let kept = c.self.invariant.kept in
+    let made = made_now c in
+    record {
+      kept = (changed kept.0 c.args.change.now, made.tree, made.kept);
+      hinted = hints_stay c.self.inside.rows.words c.change.new.self.words c.self.inside.rows.next
+          c.self.inside.hints.hints kept.2.full made.extends c.self.invariant.hinted;
+    }
 
 pub returns-clause-ok : goal.returns-clause-ok
-returns-clause-ok c =
-    let asks = rw (← c.self.view_is) at c.requires.possible in
-    rw (← c.self.view_is) (λ marks present.
-    let made = made_of c.self.inside.rows c.change.new.self c.self.inside.root c.self.invariant asks.0
-    c.args.change.now c.in_ok-built.built asks.1.0 asks.1.1 asks.2 c.in_ok-built.ensures.made marks present.0
-    present.1 in
+returns-clause-ok c = rw (← c.self.view_is) (λ marks present.
+    let made = made_of_marks c marks present.0 present.1 in
     ((made.tree, made.kept.pictured), made.kept.list))
 
 pub returns-clause-changed : goal.returns-clause-changed
-returns-clause-changed c =
-    let asks = rw (← c.self.view_is) at c.requires.possible in
-    rw (← c.self.view_is) (λ marks present.
-    let made = made_of c.self.inside.rows c.change.new.self c.self.inside.root c.self.invariant asks.0
-    c.args.change.now c.in_ok-built.built asks.1.0 asks.1.1 asks.2 c.in_ok-built.ensures.made marks present.0
-    present.1 in
+returns-clause-changed c = rw (← c.self.view_is) (λ marks present.
+    let made = made_of_marks c marks present.0 present.1 in
     differs c.in_ok-built.built.root c.self.inside.root made.same made.differs)
 
 pub returns-clause-retired : goal.returns-clause-retired
-returns-clause-retired c =
-    let asks = rw (← c.self.view_is) at c.requires.possible in
-    rw (← c.self.view_is) (λ marks present.
-    let made = made_of c.self.inside.rows c.change.new.self c.self.inside.root c.self.invariant asks.0
-    c.args.change.now c.in_ok-built.built asks.1.0 asks.1.1 asks.2 c.in_ok-built.ensures.made marks present.0
-    present.1 in
-    made.retired_is)
+returns-clause-retired c = rw (← c.self.view_is) (λ marks present.
+    (made_of_marks c marks present.0 present.1).retired_is)
 
 pub returns-clause-inside : goal.returns-clause-inside
 returns-clause-inside c =
-    let kept = c.self.invariant in
-    let asks = rw (← c.self.view_is) at c.requires.possible in
-    let can = can_make c.self.inside.rows c.self.inside.root kept asks.0 c.args.change.now asks.1.0 asks.1.1
-    asks.2 in
-    let made = c.in_ok-built.ensures.made kept.0 kept.1 can in
+    let kept = c.self.invariant.kept in
     rw (← c.self.view_is) (λ sections is.
-    inside_later _ _ c.self.inside.rows.next sections kept.2.full made.extends refl is)
+    inside_later _ _ c.self.inside.rows.next sections kept.2.full (made_now c).extends refl is)
 
 pub returns-clause-stays : goal.returns-clause-stays
 returns-clause-stays c =
-    let kept = c.self.invariant in
-    let asks = rw (← c.self.view_is) at c.requires.possible in
-    let can = can_make c.self.inside.rows c.self.inside.root kept asks.0 c.args.change.now asks.1.0 asks.1.1
-    asks.2 in
-    let made = c.in_ok-built.ensures.made kept.0 kept.1 can in
+    let kept = c.self.invariant.kept in
     rw (← c.self.view_is) (λ before after section marks is shows. (
       still_pictures c.self.inside.rows.words c.change.new.self.words c.self.inside.rows.next kept.2.full
-          made.extends section.root marks shows.0,
+          (made_now c).extends section.root marks shows.0,
       shows.1,
     ))

@@ -6,7 +6,7 @@ returns-clause-shown c = rw (← c.self.view_is) (λ marks present. present)
 
 pub returns-clause-inside : goal.returns-clause-inside
 returns-clause-inside c =
-    let kept = c.self.invariant in
+    let kept = c.self.invariant.kept in
     rw (← c.self.view_is) (λ sections is.
     entered _ kept.0 sections ((kept.1, kept.2.pictured), kept.2.list) is)
 

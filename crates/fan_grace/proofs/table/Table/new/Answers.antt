@@ -1,15 +1,18 @@
-use Rattle.std.proofs.Common.{[]}
+use Rattle.std.proofs.Common.{[], slice_get}
 use Rattle.fan_rows.specs.Trees.{Chain}
 use Rattle.fan_grace.proofs.Empty.{kept_empty}
 use Rattle.fan_grace.proofs.table.Table.new.Goals as goal
 
 pub invariant_of-result : goal.invariant_of-result
 invariant_of-result c =
-    let made = c.in_ok-new.ensures in
-    ([], Chain [], kept_empty c.in_ok-new.field-0 made.words made.next made.retired)
+    let rows = c.in_ok-rows.ensures in
+    record {
+      kept = ([], Chain [], kept_empty c.in_ok-rows.rows rows.words rows.next rows.retired);
+      hinted = c.new-2.ensures (slice_get c.in_ok-rows.rows.words);
+    }
 
 pub returns-clause-empty : goal.returns-clause-empty
 returns-clause-empty c =
-    let made = c.in_ok-new.ensures in
-    let kept = kept_empty c.in_ok-new.field-0 made.words made.next made.retired in
+    let rows = c.in_ok-rows.ensures in
+    let kept = kept_empty c.in_ok-rows.rows rows.words rows.next rows.retired in
     ((Chain [], kept.pictured), kept.list)
