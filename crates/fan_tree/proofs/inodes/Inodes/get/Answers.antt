@@ -1,7 +1,7 @@
 -- What is told of an inode is found in its slot.
 use Rattle.std.proofs.Common.{◌<◌, ◌∙◌, ap, arith, refl, sym}
 use Rattle.std.specs.Option.{option_flatten}
-use Rattle.fan_tree.proofs.Slots.{none_below_slots, read_slot, told_in_slot}
+use Rattle.fan_tree.proofs.InodeLemmas.{none_below_slots, read_slot, told_in_slot}
 use Rattle.fan_tree.proofs.inodes.Inodes.get.Goals as goal
 
 pub returns-then-number-eq-FIRST_ROOT : goal.returns-then-number-eq-FIRST_ROOT

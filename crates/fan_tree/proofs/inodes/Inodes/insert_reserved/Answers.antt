@@ -1,4 +1,4 @@
-use Rattle.fan_tree.proofs.Slots.{last_in_slots}
+use Rattle.fan_tree.proofs.InodeLemmas.{last_in_slots}
 use Rattle.fan_tree.proofs.inodes.Inodes.insert_reserved.Goals as goal
 
 pub returns : goal.returns

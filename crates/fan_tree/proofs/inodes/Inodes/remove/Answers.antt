@@ -1,6 +1,6 @@
 -- The slot of the inode is emptied.
 use Rattle.std.proofs.Common.{arith}
-use Rattle.fan_tree.proofs.Slots.{has_slot, taken_from_slots}
+use Rattle.fan_tree.proofs.InodeLemmas.{has_slot, taken_from_slots}
 use Rattle.fan_tree.proofs.inodes.Inodes.remove.Goals as goal
 
 pub overflow_sub-number : goal.overflow_sub-number

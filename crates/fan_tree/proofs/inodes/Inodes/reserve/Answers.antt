@@ -1,5 +1,5 @@
 use Rattle.std.proofs.Common.{rules, ◌+◌, ◌-◌, ◌<◌, length}
-use Rattle.fan_tree.proofs.Slots.{filled_up}
+use Rattle.fan_tree.proofs.InodeLemmas.{filled_up}
 use Rattle.fan_tree.proofs.inodes.Inodes.reserve.Goals as goal
 
 pub returns-in_ok-resize-clause-inodes : goal.returns-in_ok-resize-clause-inodes
