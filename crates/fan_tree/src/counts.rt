@@ -1,4 +1,4 @@
-// How many entries each directory has.
+// How many entries each directory has, and which was added last.
 ghost use Rattle.std.specs.Prelude.{◌≡◌, ℕ, ◌+◌, ◌-◌, ◌<◌, ◌^◌, [], OnOk, length, slice_index, slice_set};
 
 use fan_io::NoMemory;
@@ -9,6 +9,8 @@ use std::marker::Model;
 #[derive(Drop)]
 pub(crate) struct Counts {
     counts: Vec<usize>,
+    // The number that the entry leads to which was added last.
+    newest: Vec<u32>,
 }
 
 impl Model for Counts {
@@ -26,6 +28,7 @@ impl Counts {
     {
         Counts {
             counts: Vec::new(alloc),
+            newest: Vec::new(alloc),
         }
     }
 
@@ -36,6 +39,12 @@ impl Counts {
         self.counts.get(dir as usize).copied().unwrap_or(0)
     }
 
+    /// The number that the entry of a directory leads to which was added last, or another number: it isn't
+    /// noted where an entry is taken away. A caller tests it.
+    pub(crate) fn newest(&self, dir: u32) -> u32 {
+        self.newest.get(dir as usize).copied().unwrap_or(0)
+    }
+
     /// Makes room for the count of a directory.
     pub(crate) fn reserve(&mut self, dir: u32) -> Result<(), NoMemory>
         ensures same { (other : ℕ) → slice_index self.new other ≡ slice_index self.old other }
@@ -43,18 +52,22 @@ impl Counts {
     {
         let enough = dir as usize + 1;
         if self.counts.len() < enough {
+            self.newest.resize(enough, 0)?;
             self.counts.resize(enough, 0)?;
         }
         Ok(())
     }
 
-    /// Counts an entry more in a directory, for which there is room.
-    pub(crate) fn add(&mut self, dir: u32)
+    /// Counts an entry more in a directory, for which there is room, and notes the number that it leads to.
+    pub(crate) fn add(&mut self, dir: u32, number: u32)
         requires room { dir < length self.old }
         requires few { slice_index self.old dir + 1 < 2 ^ 64 }
         ensures { self.new ≡ slice_set self.old dir (slice_index self.old dir + 1) }
     {
         self.counts[dir as usize] += 1;
+        if let Some(newest) = self.newest.get_mut(dir as usize) {
+            *newest = number;
+        }
     }
 
     /// Counts an entry less in a directory, which has one.

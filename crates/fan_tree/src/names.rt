@@ -21,7 +21,8 @@ pub(crate) struct Names {
     entries: Entries,
     // Where the number that a name leads to is found.
     table: Table,
-    // How many entries each directory has.
+    // How many entries each directory has. The one that was added last is tried before the table: many
+    // directories have one entry alone.
     counts: Counts,
 }
 
@@ -57,6 +58,10 @@ impl Names {
         ensures { result
             ≡ option_map (λ entry. entry.inode) (find (is_named dir name.now) self.now) }
     {
+        let newest = self.counts.newest(dir);
+        if self.entries.leads(dir, name, newest) {
+            return Some(newest);
+        }
         self.table.get(&self.entries, dir, name)
     }
 
@@ -91,7 +96,7 @@ impl Names {
         self.table.make_room(self.alloc, &self.entries)?;
         self.table.note(&self.entries, &entry, number)?;
         self.entries.set(number, Some(entry));
-        self.counts.add(dir);
+        self.counts.add(dir, number);
         Ok(())
     }
 
@@ -129,7 +134,7 @@ impl Names {
         self.table.forget(dir, name);
         self.entries.set(number, Some(entry));
         self.counts.subtract(dir);
-        self.counts.add(to);
+        self.counts.add(to, number);
         Ok(())
     }
 }
