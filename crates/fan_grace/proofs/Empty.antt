@@ -1,16 +1,15 @@
 -- A table without marks, and the marks of a table.
-use Rattle.std.proofs.Common.{◌≡◌, ◌∙◌, ℕ, ◌+◌, ◌*◌, List, [], ◌∷◌, length, refl, sym, ap, subst, arith, slice_get, nat_eq, true, false, not, eq-eqb}
+use Rattle.std.proofs.Common.{◌≡◌, ◌∙◌, ℕ, List, [], ◌∷◌, refl, sym, ap, subst, arith, slice_get, nat_eq, true, not, eq-eqb}
 use Rattle.std.proofs.lemmas.Bool.{false≢true, ne_eqb}
 use Rattle.std.proofs.lemmas.List.Elements.{All-nil}
 use Rattle.std.specs.Prelude.{All}
 use Rattle.fan_bits.specs.declared.change.Change.{Change}
 use Rattle.fan_bits.specs.declared.mark.Mark.{Mark}
 use Rattle.fan_bits.specs.Marks.{IsChange, IsMark, IsMarkList}
-use Rattle.fan_rows.specs.Rows.{times}
-use Rattle.fan_rows.specs.Trees.{Chain, Link, Pictures, PicturesBy, Tree, chain_at, digits, marks_in, rows_of}
+use Rattle.fan_rows.specs.Trees.{Chain, Pictures, PicturesBy, Tree, chain_at, digits, marks_in}
 use Rattle.fan_rows.proofs.SameLists.{one_list}
 use Rattle.fan_build.specs.declared.publish.Built.{Built}
-use Rattle.fan_grace.specs.Stored.{CanMake, IsKept, IsKeptBy, IsMade, StoredState, given_below}
+use Rattle.fan_grace.specs.Stored.{CanMake, IsKept, IsKeptBy, IsMade, StoredState}
 
 -- from a chain without marks digits lead to no marks
 pub none_at : (digits : List ℕ) → chain_at (Chain []) digits ≡ []

@@ -1,5 +1,5 @@
 -- Walks that go on where others stood find the marks that walks from the first one find.
-use Rattle.std.proofs.Common.{◌≡◌, ◌≢◌, ◌∙◌, ℕ, ◌+◌, ◌*◌, ◌/◌, ◌%◌, ◌^◌, ◌<◌, ◌≤◌, zero, suc, Bool, true, false, List, [], ◌∷◌, ◌++◌, Option, Some, None, find, length, append_assoc, refl, sym, ap, subst, arith, slice_get}
+use Rattle.std.proofs.Common.{◌≡◌, ◌≢◌, ◌∙◌, ℕ, ◌*◌, ◌/◌, ◌%◌, ◌^◌, ◌<◌, ◌≤◌, zero, suc, Bool, true, false, List, [], ◌∷◌, ◌++◌, Option, Some, None, find, length, append_assoc, refl, sym, ap, subst, arith, slice_get}
 use Rattle.std.proofs.lemmas.Bool.Decides.{nat_tests}
 use Rattle.std.proofs.lemmas.List.Elements.{All-append, All-cons, All-head, All-nil, All-set, All-tail, All-weaker}
 use Rattle.std.proofs.Math.ListN.{set}
@@ -8,7 +8,7 @@ use Rattle.std.specs.Prelude.{All, IfSome, nat_lt, not, ◌==◌, ◌&&◌}
 use Rattle.fan_bits.specs.declared.mark.Mark.{Mark}
 use Rattle.fan_bits.specs.Marks.{next_on, on, order_of}
 use Rattle.fan_rows.specs.Rows.{MarkAt}
-use Rattle.fan_rows.specs.Trees.{Branch, Chain, IsChain, Lies, Link, Pictures, PicturesBy, Tree, chain_at, child, digits, digits_at, first_row, links_of, marks_in, places, top}
+use Rattle.fan_rows.specs.Trees.{Branch, Chain, IsChain, Lies, Link, Pictures, Tree, chain_at, child, digits, digits_at, first_row, marks_in, places, top}
 use Rattle.fan_rows.proofs.TreeLemmas.{one_tree}
 use Rattle.fan_rows.proofs.Walks.{Along, is_after}
 use Rattle.fan_build.proofs.Trees.{lies_child}

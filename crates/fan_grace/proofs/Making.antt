@@ -1,5 +1,5 @@
 -- A change of the marks that are pictured from a root: room is made, and then it is published.
-use Rattle.std.proofs.Common.{◌≡◌, ◌∙◌, ℕ, ◌+◌, ◌-◌, ◌*◌, ◌/◌, ◌%◌, ◌<◌, ◌≤◌, List, [], ◌++◌, Option, None, length, replicate, refl, sym, ap, subst, arith, slice_get, length-append}
+use Rattle.std.proofs.Common.{◌≡◌, ◌∙◌, ℕ, ◌+◌, ◌-◌, ◌*◌, ◌/◌, ◌%◌, ◌<◌, ◌≤◌, List, ◌++◌, None, length, replicate, refl, sym, ap, subst, arith, slice_get, length-append}
 use Rattle.std.proofs.lemmas.List.{length-replicate}
 use Rattle.std.proofs.lemmas.List.FromFn.{length-range_with_len}
 use Rattle.std.proofs.lemmas.Option.{slice_get_past}
@@ -8,7 +8,7 @@ use Rattle.fan_bits.specs.declared.change.Change.{Change}
 use Rattle.fan_bits.specs.declared.mark.Mark.{Mark}
 use Rattle.fan_bits.specs.Marks.{IsMarkList, changed, retired}
 use Rattle.fan_bits.proofs.MarkLists.{changed_keeps_list}
-use Rattle.fan_rows.specs.Rows.{Rows, times}
+use Rattle.fan_rows.specs.Rows.{times}
 use Rattle.fan_rows.specs.Trees.{Pictures, PicturesBy, Tree, rows_of}
 use Rattle.fan_rows.proofs.Chains.{times_append}
 use Rattle.fan_rows.proofs.SameLists.{one_list}
@@ -16,7 +16,7 @@ use Rattle.fan_rows.proofs.TreeLemmas.{one_tree}
 use Rattle.fan_build.specs.declared.publish.Built.{Built}
 use Rattle.fan_build.specs.Needs.{needed_rows}
 use Rattle.fan_build.specs.Publishing.{CanChange, CanPublish, Reaches, Wrote, given_since, retired_since}
-use Rattle.fan_grace.specs.Stored.{CanMake, Extends, IsKeptBy, IsMade, IsStored, StoredState, given_below, listed_rows, row_count}
+use Rattle.fan_grace.specs.Stored.{CanMake, Extends, IsMade, IsStored, StoredState, given_below, listed_rows, row_count}
 use Rattle.fan_grace.proofs.Frames.{still_pictures, tree_pictures}
 use Rattle.fan_grace.proofs.Numbers.{range_before, range_behind, ranges_apart}
 use Rattle.fan_grace.proofs.Words.{ended, front}

@@ -1,12 +1,11 @@
 -- Sections of a table: one enters, one leaves, and a change keeps them.
-use Rattle.std.proofs.Common.{◌≡◌, ◌∙◌, ℕ, ◌+◌, ◌-◌, ◌*◌, List, [], ◌∷◌, ◌++◌, length, refl, sym, ap, arith, length-append, slice_get}
-use Rattle.std.proofs.lemmas.List.Elements.{All-cons, All-head, All-nil, All-tail, All-weaker}
+use Rattle.std.proofs.Common.{◌≡◌, ◌∙◌, ℕ, ◌+◌, ◌-◌, ◌*◌, List, [], ◌∷◌, ◌++◌, length, refl, sym, arith, length-append}
+use Rattle.std.proofs.lemmas.List.Elements.{All-cons, All-head, All-tail, All-weaker}
 use Rattle.std.specs.Prelude.{All}
 use Rattle.fan_bits.specs.declared.mark.Mark.{Mark}
-use Rattle.fan_bits.specs.Marks.{IsMarkList}
 use Rattle.fan_grace.specs.declared.section.Section.{Section}
 use Rattle.fan_grace.specs.Stored.{Extends}
-use Rattle.fan_grace.specs.Tables.{IsInside, Present, Shows, ShowsSome, TableState}
+use Rattle.fan_grace.specs.Tables.{IsInside, Present, ShowsSome, TableState}
 use Rattle.fan_grace.proofs.Frames.{still_pictures}
 
 -- one that enters shows the present marks

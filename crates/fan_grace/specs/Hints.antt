@@ -1,5 +1,5 @@
 -- Where walks stood, and whence others go on. No public clause cites this module.
-use Rattle.std.specs.Prelude.{◌≡◌, ℕ, ◌≤◌, ◌^◌, List, ◌++◌, Option, All, slice_get}
+use Rattle.std.specs.Prelude.{◌≡◌, ℕ, ◌≤◌, List, ◌++◌, Option, All, slice_get}
 use Rattle.fan_bits.specs.Marks.{order_of}
 use Rattle.fan_rows.specs.Trees.{Lies, Link, Tree, chain_at, digits, first_row, top}
 use Rattle.fan_grace.specs.declared.hints.Hint.{Hint}

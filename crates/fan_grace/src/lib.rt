@@ -16,6 +16,8 @@ mod hints;
 mod section;
 mod stored;
 mod table;
+#[cfg(test)]
+mod tests;
 mod walk;
 
 pub use cells::TableCells;

@@ -68,8 +68,10 @@ impl StoredRows {
     /// # Errors
     /// `NoMemory` if no memory was found for the rows that it takes; nothing is changed then.
     pub(crate) fn change(&mut self, root: u64, change: &Change) -> Result<Built, NoMemory>
-        requires { (marks : List Mark) × (tree : Tree) × CanMake self.old root marks tree change.now }
-        ensures made { (marks : List Mark) (tree : Tree) → CanMake self.old root marks tree change.now
+        requires { (marks : List Mark) × (tree : Tree)
+            × CanMake self.old root marks tree change.now }
+        ensures made { (marks : List Mark) (tree : Tree)
+            → CanMake self.old root marks tree change.now
             → IfOk result (λ built. IsMade self.old self.new root marks change.now built) }
         ensures err { OnErr result (self.new ≡ self.old) }
     {

@@ -23,8 +23,8 @@ use std::marker::Model;
 /// The marks of all groups, in rows. Who reads enters a section, and sees the marks as they stood
 /// then until it leaves.
 ///
-/// Contracts see the words of the rows, the root of the present marks, how many sections are in, and
-/// the rows that were given up.
+/// Contracts see the words of the rows, the root of the present marks, how many sections are in,
+/// and the rows that were given up.
 #[derive(Drop)]
 pub struct Table {
     rows: StoredRows,

@@ -5,9 +5,7 @@ use Rattle.std.specs.Ordering.{is_gt, nat_cmp}
 use Rattle.std.specs.Prelude.{IsSome}
 use Rattle.fan_bits.specs.Marks.{order_of}
 use Rattle.fan_rows.specs.Rows.{MarkAt}
-use Rattle.fan_rows.specs.Trees.{IsChain}
 use Rattle.fan_rows.proofs.Walks.{room_falls}
-use Rattle.fan_grace.specs.Hints.{StandsAt}
 use Rattle.fan_grace.proofs.Hinted.{along, mark_on, stands_first, stands_more}
 use Rattle.fan_grace.proofs.walk.row_above.Goals as goal
 

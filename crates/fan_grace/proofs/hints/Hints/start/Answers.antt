@@ -1,4 +1,4 @@
-use Rattle.std.proofs.Common.{length, arith}
+use Rattle.std.proofs.Common.{arith}
 use Rattle.fan_grace.proofs.Hinted.{hint_fits}
 use Rattle.fan_grace.proofs.hints.Hints.start.Goals as goal
 

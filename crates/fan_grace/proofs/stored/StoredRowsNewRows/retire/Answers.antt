@@ -1,7 +1,5 @@
 use Rattle.std.proofs.Common.{◌<◌, ◌/◌, ◌*◌, length, arith}
 use Rattle.std.proofs.lemmas.List.Elements.{All-push}
-use Rattle.std.specs.Prelude.{IsSome, slice_get}
-use Rattle.fan_rows.specs.Rows.{times}
 use Rattle.fan_grace.proofs.Numbers.{once_last, room_for}
 use Rattle.fan_grace.proofs.Words.{within}
 use Rattle.fan_grace.proofs.stored.StoredRowsNewRows.retire.Goals as goal

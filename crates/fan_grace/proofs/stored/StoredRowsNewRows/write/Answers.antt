@@ -1,4 +1,4 @@
-use Rattle.std.proofs.Common.{◌-◌, length, arith}
+use Rattle.std.proofs.Common.{◌-◌, arith}
 use Rattle.fan_grace.proofs.Numbers.{in_range}
 use Rattle.fan_grace.proofs.stored.StoredRowsNewRows.write.Goals as goal
 

@@ -1,4 +1,4 @@
-use Rattle.std.proofs.Common.{◌^◌, ◌<◌, ◌%◌, sym, subst, arith, slice_get}
+use Rattle.std.proofs.Common.{◌%◌, sym, subst, arith, slice_get}
 use Rattle.fan_rows.specs.Rows.{MarkAt}
 use Rattle.fan_grace.proofs.Hinted.{hint_kept, mark_there, next_none, next_some, start_lies}
 use Rattle.fan_grace.proofs.table.Table.next.Goals as goal
