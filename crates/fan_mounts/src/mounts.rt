@@ -108,10 +108,20 @@ impl Mounts {
         ensures refused { IfErr result (λ why. unmounted self.old mount ≡ Err why) }
         ensures err { OnErr result (self.new ≡ self.old) }
     {
+        self.can_umount(mount)?;
+        self.remove(mount);
+        Ok(())
+    }
+
+    /// Whether `umount` would remove a mount: EBUSY exactly if not. Nothing changes.
+    #[tactic(auto, unfolding(crate::specs::Mounts::unmounted))]
+    pub fn can_umount(&self, mount: u32) -> Result<(), Errno>
+        ensures ok { OnOk result (unmounted self.now mount ≡ Ok (others mount self.now)) }
+        ensures refused { IfErr result (λ why. unmounted self.now mount ≡ Err why) }
+    {
         if mount == ROOT_MOUNT || self.carries(mount) {
             return Err(Errno::Ebusy);
         }
-        self.remove(mount);
         Ok(())
     }
 

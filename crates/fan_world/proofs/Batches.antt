@@ -14,8 +14,10 @@ use Rattle.std.proofs.lemmas.Map.Views.{All-keys-insert_entry, All-map-remove_en
 use Rattle.fan_access.specs.Access.{AccessState, Stepped}
 use Rattle.fan_access.specs.declared.spot.Spot.{Spot}
 use Rattle.fan_access.specs.Operations.{first_mount}
+use Rattle.fan_bits.specs.declared.mark.Mark.{Mark}
 use Rattle.fan_bits.specs.Outcomes.{ends_access}
 use Rattle.fan_bits.specs.Words.{is_among}
+use Rattle.fan_grace.specs.declared.section.Section.{Section}
 use Rattle.fan_listener.specs.ListenerState.{ListenerState}
 use Rattle.fan_machine.specs.Accesses.{access_of, accesses_after}
 use Rattle.fan_machine.specs.Batches.{is_held}
@@ -66,25 +68,26 @@ any_swap r (x ∷ xs) ys = rw (any_swap r xs ys) (sym (any_or (r x) (λ y. list_
 
 -- ---- the open accesses as they are kept
 
--- both lists have the same numbers
-pub keys_both : (es : List (ℕ × OpenAccess)) (accesses : List (ℕ × AccessState)) → AllZip IsOpen es accesses
-    → keys_of es ≡ keys_of accesses
-keys_both [] [] zipped = refl
-keys_both [] (a ∷ more) zipped = absurd zipped
-keys_both (e ∷ es) [] zipped = absurd zipped
-keys_both (e ∷ es) (a ∷ more) zipped = rw (zipped.0.number, keys_both es more zipped.1) refl
+module _ (S : Type 0) (shows : S → Section → List Mark → Type 0) (table : S) where
+  -- both lists have the same numbers
+  pub keys_both : (es : List (ℕ × OpenAccess)) (accesses : List (ℕ × AccessState))
+      → AllZip (IsOpen shows table) es accesses → keys_of es ≡ keys_of accesses
+  keys_both [] [] zipped = refl
+  keys_both [] (a ∷ more) zipped = absurd zipped
+  keys_both (e ∷ es) [] zipped = absurd zipped
+  keys_both (e ∷ es) (a ∷ more) zipped = rw (zipped.0.number, keys_both es more zipped.1) refl
 
--- and the same mounts
-pub through_both : (mount : ℕ) (es : List (ℕ × OpenAccess)) (accesses : List (ℕ × AccessState))
-    → AllZip IsOpen es accesses
-    → list_any (is_through mount) (values_of es) ≡ list_any (files.goes_through mount) accesses
-through_both mount [] [] zipped = refl
-through_both mount [] (a ∷ more) zipped = absurd zipped
-through_both mount (e ∷ es) [] zipped = absurd zipped
-through_both mount (e ∷ es) (a ∷ more) zipped =
-    let same : (first_mount e.1.access.spots == mount) ≡ (first_mount a.1.spots == mount) =
-    ap (λ (spots : List Spot). first_mount spots == mount) zipped.0.goes_on.spots in
-    rw (same, through_both mount es more zipped.1) refl
+  -- and the same mounts
+  pub through_both : (mount : ℕ) (es : List (ℕ × OpenAccess)) (accesses : List (ℕ × AccessState))
+      → AllZip (IsOpen shows table) es accesses
+      → list_any (is_through mount) (values_of es) ≡ list_any (files.goes_through mount) accesses
+  through_both mount [] [] zipped = refl
+  through_both mount [] (a ∷ more) zipped = absurd zipped
+  through_both mount (e ∷ es) [] zipped = absurd zipped
+  through_both mount (e ∷ es) (a ∷ more) zipped =
+      let same : (first_mount e.1.access.spots == mount) ≡ (first_mount a.1.spots == mount) =
+      ap (λ (spots : List Spot). first_mount spots == mount) zipped.0.goes_on.spots in
+      rw (same, through_both mount es more zipped.1) refl
 
 -- ---- whether a batch is held
 
@@ -101,14 +104,14 @@ held_number world batch =
     (λ number. is_eq-nat_cmp number key) batch.accesses) keys
 
 -- a batch is held as long as an access is open with a number up to the last one at its start
-pub held_both : (kept : KeptBatch) (batch : Batch) (world : WorldState) (es : List (ℕ × OpenAccess))
-    → IsBatch kept batch world → AllZip IsOpen es world.accesses
-    → is_held world batch ≡ has_up_to es kept.last_access
-held_both kept batch world es is zipped =
+pub held_both : (S : Type 0) (shows : S → Section → List Mark → Type 0) (table : S) (kept : KeptBatch)
+    (batch : Batch) (world : WorldState) (es : List (ℕ × OpenAccess)) → IsBatch kept batch world
+    → AllZip (IsOpen shows table) es world.accesses → is_held world batch ≡ has_up_to es kept.last_access
+held_both S shows table kept batch world es is zipped =
     held_number world batch
     ∙ any_agree (λ number. is_among number batch.accesses) (λ number. nat_le number kept.last_access)
     (keys_of world.accesses) is.held
-    ∙ ap (list_any (λ number. nat_le number kept.last_access)) (sym (keys_both es world.accesses zipped))
+    ∙ ap (list_any (λ number. nat_le number kept.last_access)) (sym (keys_both S shows table es world.accesses zipped))
     ∙ any_map (λ number. nat_le number kept.last_access) (λ e. e.0) es
 
 -- ---- what becomes of a batch that goes on

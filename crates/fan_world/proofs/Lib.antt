@@ -1,7 +1,12 @@
 pub mod Batches
 pub mod Both
 pub mod Classed
+pub mod Closed
+pub mod Entering
 pub mod Flags
 pub mod Machines
 pub mod OpenLemmas
+pub mod OpenSections
+pub mod Removable
 pub mod Safe
+pub mod TableLemmas

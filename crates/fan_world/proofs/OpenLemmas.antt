@@ -24,7 +24,7 @@ use Rattle.fan_world.specs.Opened.{AreCounted, count_through, is_through}
 use Rattle.fan_world.specs.Retired.{has_up_to}
 
 -- an access that is removed was one of the accesses
-length_removed : {K X : Type 0} (test : K → Bool) (es : List (K × X)) → length (remove_entry test es) ≤ length es
+pub length_removed : {K X : Type 0} (test : K → Bool) (es : List (K × X)) → length (remove_entry test es) ≤ length es
 length_removed test [] = omega arith
 length_removed test (e ∷ es) = by (test e.0) refl (length_removed test es)
   where
@@ -33,7 +33,7 @@ length_removed test (e ∷ es) = by (test e.0) refl (length_removed test es)
     by true i ih = grind (arith, i)
     by false i ih = grind (arith, i, ih)
 
-removed_none : {K X : Type 0} (test : K → Bool) (es : List (K × X)) → lookup test es ≡ None
+pub removed_none : {K X : Type 0} (test : K → Bool) (es : List (K × X)) → lookup test es ≡ None
     → remove_entry test es ≡ es
 removed_none test [] none = refl
 removed_none test (e ∷ es) none = by (test e.0) refl none (removed_none test es)
@@ -55,7 +55,7 @@ counted_end mount number begun (e ∷ es) =
       count_by-cons (is_through mount) e.1 (values_of (es ++ (number, begun) ∷ [])),
     )
 
-length_end : {X : Type 0} (es : List X) (e : X) → length (es ++ e ∷ []) ≡ length es + 1
+pub length_end : {X : Type 0} (es : List X) (e : X) → length (es ++ e ∷ []) ≡ length es + 1
 length_end [] e = refl
 length_end (x ∷ es) e = let ih = length_end es e in omega (arith, ih)
 
@@ -65,6 +65,13 @@ module _ (entries : List (ℕ × OpenAccess)) (through : List (ℕ × ℕ)) (las
   pub number_is_new : (number : ℕ) (begun : OpenAccess) → last < number → lookup (is_at (nat_cmp number)) entries ≡ None
   number_is_new number begun above =
       new_number_end number begun entries (All-weaker (λ q. q ≤ last) (λ q. q < number)
+      (λ q within. omega (arith, within, above)) (keys_of entries) counted.begun)
+
+  -- it comes last
+  pub begun_last : (number : ℕ) (begun : OpenAccess) → last < number
+      → insert_entry nat_cmp entries number begun ≡ entries ++ (number, begun) ∷ []
+  begun_last number begun above =
+      insert_number_end number begun entries (All-weaker (λ q. q ≤ last) (λ q. q < number)
       (λ q within. omega (arith, within, above)) (keys_of entries) counted.begun)
 
   -- an access that begins is counted

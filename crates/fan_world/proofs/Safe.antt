@@ -3,6 +3,7 @@ use Rattle.std.proofs.Common.{◌≡◌, ℕ, zero, suc, ◌+◌, ◌-◌, ◌<�
 use Rattle.std.specs.Prelude.{All}
 use Rattle.fan_bits.specs.declared.change.Change.{Change}
 use Rattle.fan_bits.specs.declared.mark.Mark.{Mark}
+use Rattle.fan_grace.specs.declared.section.Section.{Section}
 use Rattle.fan_groups.specs.Bounds.{AreBounded}
 use Rattle.fan_groups.proofs.Bounded.{bounded_call, bounded_later, makes_less}
 use Rattle.fan_listener.specs.declared.answers.Answer.TheVariants as answers
@@ -15,7 +16,7 @@ use Rattle.fan_listener.specs.ListenerState.{ListenerState}
 use Rattle.fan_listener.specs.Queue.{put}
 use Rattle.fan_listener.specs.Responses.{answer_of}
 use Rattle.fan_world.specs.Bounds.{AreClassed, IsClassedIf, IsSafe, KeepsFlags}
-use Rattle.fan_world.specs.Machine.{Parts}
+use Rattle.fan_world.specs.Machine.{PartsOver, sections_of}
 use Rattle.fan_machine.specs.World.{changed_if}
 use Rattle.fan_world.specs.Marks.{retired_if}
 use Rattle.fan_world.proofs.Classed.{classed_changed}
@@ -75,30 +76,50 @@ classed_changed_if : (groups : List ListenerState) (marks : List Mark) (change :
 classed_changed_if groups marks None has classed = classed
 classed_changed_if groups marks (Some change) has classed = classed_changed groups marks change has classed
 
+-- the sections of the open accesses are in, as parts are kept
+pub kept_there : (S : Type 0) (inside : S → List Section → Type 0) (calls : ℕ) (kept parts : PartsOver S)
+    → kept ≡ parts → IsSafe inside calls parts → inside kept.sections (sections_of kept.accesses)
+kept_there S inside calls kept parts is safe = rw is safe.there
+
 -- parts as they are in a method, of which what is known is known at its entry
-module _ (calls : ℕ) (old entry new : Parts) (is : old ≡ entry) (safe : IsSafe calls entry)
+module _ (S : Type 0) (inside : S → List Section → Type 0) (calls : ℕ) (old entry new : PartsOver S)
+    (is : old ≡ entry) (safe : IsSafe inside calls entry)
     (bounded : AreBounded calls old.groups → AreBounded (calls + 1) new.groups)
     (keeps : KeepsFlags old.groups new.groups) (batch : new.batch ≡ old.batch) where
-  old_safe : IsSafe calls old
+  pub old_safe : IsSafe inside calls old
   old_safe = rw is safe
 
-  -- groups changed, and no marks
-  pub safe_groups : new.marks ≡ old.marks → new.waiting ≡ old.waiting → IsSafe (calls + 1) new
-  safe_groups marks waiting = record {
+  -- groups changed, and no marks; an access may have ended
+  pub safe_groups : new.marks ≡ old.marks → new.waiting ≡ old.waiting
+      → length new.accesses ≤ length old.accesses → inside new.sections (sections_of new.accesses)
+      → IsSafe inside (calls + 1) new
+  safe_groups marks waiting few there = record {
     bounded = bounded old_safe.bounded;
     classed = rw marks (classed_kept old.groups new.groups old.marks keeps old_safe.classed);
     counted = rw (waiting, batch) (let counted = old_safe.counted in omega (arith, counted));
+    opened = let opened = old_safe.opened in omega (arith, opened, few);
+    there = there;
   }
 
-  -- marks changed, if there is a change
+  -- and no access either
+  pub safe_others : new.marks ≡ old.marks → new.waiting ≡ old.waiting → new.accesses ≡ old.accesses
+      → new.sections ≡ old.sections → IsSafe inside (calls + 1) new
+  safe_others marks waiting accesses sections =
+      safe_groups marks waiting (rw accesses (omega arith)) (rw (sections, accesses) old_safe.there)
+
+  -- marks changed, if there is a change; an access may have begun
   pub safe_marks : (change : Option Change) → IsClassedIf entry.groups change
       → new.marks ≡ changed_if change old.marks
       → new.waiting ≡ old.waiting + length (retired_if change old.marks)
-      → length (retired_if change old.marks) < 2 ^ 32 → IsSafe (calls + 1) new
-  safe_marks change has marks waiting few =
+      → length (retired_if change old.marks) < 2 ^ 32
+      → length new.accesses ≤ length old.accesses + 1 → inside new.sections (sections_of new.accesses)
+      → IsSafe inside (calls + 1) new
+  safe_marks change has marks waiting few one_more there =
       let old_has : IsClassedIf old.groups change = rw is has in record {
         bounded = bounded old_safe.bounded;
         classed = rw marks (classed_kept old.groups new.groups (changed_if change old.marks) keeps
             (classed_changed_if old.groups old.marks change old_has old_safe.classed));
         counted = rw (waiting, batch) (let counted = old_safe.counted in omega (arith, counted, few));
+        opened = let opened = old_safe.opened in omega (arith, opened, one_more);
+        there = there;
       }

@@ -1,16 +1,17 @@
 -- What safety needs of the parts of the machine.
-use Rattle.std.specs.Prelude.{◌≡◌, ℕ, ◌+◌, ◌*◌, ◌≤◌, ◌^◌, List, All, IfSome, Option, Some, None}
+use Rattle.std.specs.Prelude.{◌≡◌, ℕ, ◌+◌, ◌*◌, ◌≤◌, ◌^◌, List, All, IfSome, Option, Some, None, length}
 use Rattle.std.specs.Option.{IsSomeAnd}
 use Rattle.fan_bits.specs.declared.change.Change.{Change}
 use Rattle.fan_bits.specs.declared.change.Change.TheVariants.{Put}
 use Rattle.fan_bits.specs.declared.class.Class.{Class}
 use Rattle.fan_bits.specs.declared.mark.Mark.{Mark}
 use Rattle.fan_bits.specs.Words.{class_of}
+use Rattle.fan_grace.specs.declared.section.Section.{Section}
 use Rattle.fan_groups.specs.Bounds.{AreBounded}
 use Rattle.fan_listener.specs.Groups.{listener_at}
 use Rattle.fan_listener.specs.ListenerState.{ListenerState}
 use Rattle.fan_world.specs.declared.retirement.KeptBatch.{KeptBatch}
-use Rattle.fan_world.specs.Machine.{Parts}
+use Rattle.fan_world.specs.Machine.{PartsOver, sections_of}
 
 -- a group is there, and was made with flags of a class
 abbrev pub HasClass : List ListenerState → ℕ → Class → Type 0
@@ -42,9 +43,12 @@ abbrev pub marks_in : Option KeptBatch → ℕ
 marks_in None = 0
 marks_in (Some batch) = batch.marks
 
--- the parts after no more than so many steps: each adds a listener, an entry of one, or fewer than 2^32
--- retired marks
-pub record IsSafe (calls : ℕ) (parts : Parts) : Type 0 where
+-- the parts after no more than so many steps: each adds a listener, an entry of one, an open access, or fewer than
+-- 2^32 retired marks. The sections of the open accesses are those that are in
+pub record IsSafe {S : Type 0} (inside : S → List Section → Type 0) (calls : ℕ) (parts : PartsOver S)
+    : Type 0 where
   pub bounded : AreBounded calls parts.groups
   pub classed : AreClassed parts.groups parts.marks
   pub counted : parts.waiting + marks_in parts.batch ≤ calls * 2 ^ 32
+  pub opened : length parts.accesses ≤ calls
+  pub there : inside parts.sections (sections_of parts.accesses)

@@ -1,10 +1,8 @@
 -- What an operation does, as it is planned before anything changes. No public clause cites this module.
-use Rattle.std.specs.Prelude.{◌≡◌, ℕ, List, ◌∷◌, Option, Some, None, Result, Ok, Err, All, length}
+use Rattle.std.specs.Prelude.{◌≡◌, ℕ, List, ◌∷◌, Result, Ok, Err, All, length}
 use Rattle.fan_access.specs.declared.op.Op.{Op}
 use Rattle.fan_access.specs.declared.op.Op.TheVariants as ops
 use Rattle.fan_access.specs.declared.spot.Spot.{Spot}
-use Rattle.fan_bits.specs.declared.change.Change.{Change}
-use Rattle.fan_bits.specs.declared.change.Change.TheVariants.{Clear, DropObject}
 use Rattle.fan_bits.specs.declared.errno.Errno.{Errno}
 use Rattle.fan_bits.specs.declared.errno.Errno.TheVariants as errno
 use Rattle.fan_bits.specs.Places.{IsPlace}
@@ -12,29 +10,12 @@ use Rattle.fan_machine.specs.Deeds.{Deed}
 use Rattle.fan_machine.specs.Outcome.{◌>>=◌}
 use Rattle.fan_tree.specs.Changes.{removed, renamed}
 use Rattle.fan_tree.specs.Tree.{TreeState, made}
-use Rattle.fan_world.specs.declared.deeds.MarkEdit.{MarkEdit}
-use Rattle.fan_world.specs.declared.deeds.MarkEdit.TheVariants.{Dropped, Emptied, Stays}
 use Rattle.fan_world.specs.declared.plans.Plan.{Plan}
 use Rattle.fan_world.specs.declared.deeds.TreeChange.{TreeChange}
 use Rattle.fan_world.specs.declared.deeds.TreeChange.TheVariants.{Makes, Removes, Renames, Uses, Writes}
 use Rattle.fan_world.specs.declared.refused.Refused.{Refused}
 use Rattle.fan_world.specs.declared.refused.Refused.TheVariants.{No, NoMemory}
-
--- the change of marks before an access takes its view
-abbrev pub first_of : MarkEdit → Option Change
-first_of (Emptied object) = Some (Clear object)
-first_of _ = None
-
--- and the change after that
-abbrev pub last_of : MarkEdit → Option Change
-last_of (Dropped object) = Some (DropObject object)
-last_of _ = None
-
--- the one change of marks, if there is one
-abbrev pub edit_of : MarkEdit → Option Change
-edit_of Stays = None
-edit_of (Emptied object) = Some (Clear object)
-edit_of (Dropped object) = Some (DropObject object)
+use Rattle.fan_world.specs.Marks.{Dropped, Emptied, MarkEdit, Stays, first_of, last_of}
 
 -- a deed at these spots that leaves this tree, and changes the marks so
 abbrev pub deed_with : List Spot → TreeState → MarkEdit → Deed

@@ -1,10 +1,10 @@
 // The file tree with its mounts. What is refused changes nothing, and so does want of memory.
-ghost use Rattle.std.specs.Prelude.{◌≡◌, ℕ, List, IfErr, IfOk, OnErr, OnOk, Ok, Err, is_some, true};
+ghost use Rattle.std.specs.Prelude.{◌≡◌, ℕ, List, IfErr, IfOk, IsOk, OnErr, OnOk, Ok, Err, is_some, true};
 ghost use Rattle.fan_bits.specs.Places.{IsPlace};
 ghost use Rattle.fan_mounts.specs.Mounts.{initial_mounts, mount_of, mounted, stands_on, unmounted};
 ghost use Rattle.fan_mounts.specs.Reaches.{Reaches, place_of};
 ghost use Rattle.fan_tree.specs.Changes.{removed, renamed};
-ghost use Rattle.fan_tree.specs.Tree.{IsRefused, initial_tree, made, made_fs, root_of};
+ghost use Rattle.fan_tree.specs.Tree.{IsRefused, TreeState, initial_tree, made, made_fs, root_of};
 
 use fan_bits::{Errno, Place};
 use fan_io::NoMemory;
@@ -73,6 +73,23 @@ impl Files {
         settled(self.tree.make(dir, name, is_dir))
     }
 
+    /// The number of the file or empty directory that `remove` would remove: ENOENT, ENOTEMPTY.
+    /// Nothing changes.
+    #[tactic(auto, unfolding(fan_tree::specs::Changes::removed))]
+    pub(crate) fn removable(&self, dir: u32, name: &[u8]) -> Result<u32, Errno>
+        ensures removed { IfOk result (λ inode. (left : TreeState)
+            × (removed self.now.tree dir name.now ≡ Ok (inode, left))) }
+        ensures refused { IfErr result (λ errno. removed self.now.tree dir name.now ≡ Err errno) }
+    {
+        let Some(inode) = self.tree.child(dir, name) else {
+            return Err(Errno::Enoent);
+        };
+        if self.tree.has_entries(inode) {
+            return Err(Errno::Enotempty);
+        }
+        Ok(inode)
+    }
+
     /// Removes a file or an empty directory by its name in a directory, and gives its number: ENOENT,
     /// ENOTEMPTY. Allocates nothing.
     pub(crate) fn remove(&mut self, dir: u32, name: &[u8]) -> Result<u32, Errno>
@@ -131,6 +148,14 @@ impl Files {
         ensures err { OnErr result (self.new ≡ self.old) }
     {
         settled(self.mounts.mount(&mut self.tree, fs, at))
+    }
+
+    /// Whether `unmount` would take a mount away: EBUSY if not. Nothing changes.
+    pub(crate) fn can_unmount(&self, mount: u32) -> Result<(), Errno>
+        ensures ok { OnOk result (IsOk (unmounted self.now.mounts mount)) }
+        ensures refused { IfErr result (λ errno. unmounted self.now.mounts mount ≡ Err errno) }
+    {
+        self.mounts.can_umount(mount)
     }
 
     /// Takes a mount away: EBUSY for the one at `/`, and if a mount stands on a directory of it. Allocates

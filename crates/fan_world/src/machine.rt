@@ -1,152 +1,93 @@
-// The parts of the machine, and which of them does a step.
-ghost use Rattle.std.specs.Prelude.{◌≡◌, ◌+◌, ◌<◌, ◌^◌, IfOk, OnErr};
-ghost use Rattle.fan_machine.specs.Batches.{graced};
-ghost use Rattle.fan_machine.specs.Next.{attempted};
+// The machine as its callers see it, over any table of marks with sections, and one step of it.
+ghost use Rattle.std.specs.Prelude.{◌≡◌, ◌+◌, ◌<◌, ◌^◌, ℕ, [], IfOk, OnErr, OnOk};
+ghost use Rattle.fan_machine.specs.Next.{next};
 ghost use Rattle.fan_machine.specs.World.{WorldState, initial_world};
-ghost use Rattle.fan_world.specs.Bounds.{IsSafe};
-ghost use Rattle.fan_world.specs.Done.{IsDone};
-ghost use Rattle.fan_world.specs.Machine.{IsMachine};
+ghost use Rattle.fan_world.specs.Machine.{IsMachineOver, IsStepOver, sections_of};
+ghost use Rattle.fan_world.specs.Shown.{HasShown};
 
-use super::begin_steps::Actor;
-use super::files::Files;
-use super::group_steps::MAX_LIMIT;
-use super::open_accesses::OpenAccesses;
+use super::inner::Inner;
 use super::refused::Refused;
-use super::retirement::Retirement;
-use fan_groups::Groups;
+use super::sections::Sections;
 use fan_io::NoMemory;
-use fan_marks::MarkBook;
 use fan_script::{Reply, Step};
 use std::alloc::Global;
 use std::marker::Model;
 
-/// The parts of the machine. A step that is refused, or finds no memory, changes nothing.
+/// The machine, which does one step of a script at a time. An open access goes by a section of the
+/// table, and by nothing else.
 #[derive(Drop)]
-pub(crate) struct Machine {
-    pub(crate) alloc: Global,
-    pub(crate) files: Files,
-    pub(crate) groups: Groups,
-    pub(crate) marks: MarkBook,
-    pub(crate) retirement: Retirement,
-    pub(crate) accesses: OpenAccesses,
-    // How many entries fill the queue of a group that is made now.
-    pub(crate) limit: u32,
-    steps: u32,
+pub struct Machine<S: Sections> {
+    inner: Inner<S>,
 }
 
-impl Model for Machine {
-    ghost use Rattle.fan_world.specs.Limits.{IsLimit};
-    ghost use Rattle.fan_world.specs.Machine.{Parts};
+impl<S: Sections> Model for Machine<S> {
+    ghost use Rattle.fan_world.specs.Bounds.{IsSafe};
+    ghost use Rattle.fan_world.specs.Machine.{PartsOver};
 
-    ghost Value = { Parts };
+    ghost Value = { PartsOver S };
 
-    ghost view = { λ m. record {
-      tree = m.files.tree;
-      mounts = m.files.mounts;
-      groups = m.groups;
-      marks = m.marks.marks;
-      waiting = m.retirement.waiting;
-      batch = m.retirement.batch;
-      accesses = m.accesses.entries;
-      last_access = m.accesses.last;
-      limit = m.limit;
-      steps = m.steps;
-    } };
+    ghost view = { λ m. m.inner };
 
-    ghost invariant = { λ m. IsLimit m.limit };
+    ghost invariant = { λ m. IsSafe S.inside m.inner.steps m.inner };
 }
 
-impl Machine {
-    /// A filesystem with its root, mounted at `/`, and no group.
-    pub(crate) fn new(alloc: Global) -> Result<Machine, NoMemory>
-        ensures machine { IfOk result (λ machine. IsMachine machine initial_world) }
-        ensures safe { IfOk result (λ machine. IsSafe 0 machine) }
+impl<S: Sections> Machine<S> {
+    /// The machine at the start, over a table without marks and sections: a filesystem with its root,
+    /// mounted at `/`, and no group.
+    ///
+    /// # Errors
+    /// `NoMemory` if there was none.
+    pub fn over(alloc: Global, sections: S) -> Result<Machine<S>, NoMemory>
+        requires inside { S.inside sections [] }
+        requires present { S.honest sections → S.present sections [] }
+        ensures machine { IfOk result (λ machine. S.honest sections
+            → IsMachineOver S.shows S.honest machine initial_world) }
+        ensures sections { IfOk result (λ machine. machine.sections ≡ sections) }
         ensures steps { IfOk result (λ machine. machine.steps ≡ 0) }
     {
         Ok(Machine {
-            alloc,
-            files: Files::new(alloc)?,
-            groups: Groups::new(alloc),
-            marks: MarkBook::new(alloc)?,
-            retirement: Retirement::new(),
-            accesses: OpenAccesses::new(alloc),
-            limit: MAX_LIMIT,
-            steps: 0,
+            inner: Inner::over(alloc, sections)?,
         })
     }
 
-    /// How many steps were counted.
-    pub(crate) fn steps(&self) -> u32
+    /// The table by whose sections accesses go: those of the open accesses are the ones that are in.
+    pub fn table(&self) -> &S
+        ensures value { result.now ≡ self.now.sections }
+        ensures inside { S.inside self.now.sections (sections_of self.now.accesses) }
+        ensures present { S.honest self.now.sections → S.present self.now.sections self.now.marks }
+    {
+        self.inner.table()
+    }
+
+    /// How many steps were made, want of memory left out.
+    pub fn steps(&self) -> u32
         ensures { result ≡ self.now.steps }
     {
-        self.steps
+        self.inner.steps()
     }
 
-    /// Counts a step that was done or refused.
-    pub(crate) fn count_step(&mut self)
+    /// Does one step and gives its reply. A single step of an access goes by what its section shows,
+    /// whatever that is; where the table is honest, these are the marks as they stood at its begin.
+    ///
+    /// # Errors
+    /// `NoMemory` if there was none. Nothing changed then.
+    #[tactic(auto, unfolding(fan_machine::specs::Next::next))]
+    pub fn step(&mut self, step: &Step) -> Result<Reply, NoMemory>
         requires { self.old.steps < 2 ^ 30 }
-        ensures { self.new ≡ record self.old { steps = self.old.steps + 1 } }
-    {
-        self.steps += 1;
-    }
-
-    /// Does one step, without counting it, and gives its reply.
-    #[tactic(auto, unfolding(fan_machine::specs::Next::attempted))]
-    pub(crate) fn attempt(&mut self, step: &Step) -> Result<Reply, Refused>
-        requires few { self.old.steps < 2 ^ 30 }
-        requires safe { IsSafe self.old.steps self.old }
-        ensures done { (world : WorldState) → IsMachine self.old world
-            → IsDone self.new result (attempted world step.now) }
-        ensures safe { IsSafe (self.old.steps + 1) self.new }
-        ensures steps { self.new.steps ≡ self.old.steps }
+        ensures ok { IfOk result (λ reply. (world : WorldState)
+            → IsMachineOver S.shows S.honest self.old world
+            → IsStepOver S.shows S.honest self.new reply (next world step.now)) }
+        ensures shown { (number : ℕ) → step.now ≡ Step.Advance number
+            → IfOk result (λ reply. HasShown S.shows number self.old self.new reply) }
+        ensures steps { OnOk result (self.new.steps ≡ self.old.steps + 1) }
         ensures err { OnErr result (self.new ≡ self.old) }
     {
-        match step {
-            Step::MkFile { path } => self.make_entry(path.as_slice(), false),
-            Step::MkDir { path } => self.make_entry(path.as_slice(), true),
-            Step::MkFs => self.make_fs(),
-            Step::Mount { fs, path } => self.mount(*fs, path.as_slice()),
-            Step::Umount { path } => self.umount(path.as_slice()),
-            Step::Limit { entries } => self.set_limit(*entries),
-            Step::Init { flags } => self.init(*flags),
-            Step::Mark {
-                group,
-                flags,
-                mask,
-                path,
-            } => self.mark(*group, *flags, *mask, path.as_slice()),
-            Step::Begin {
-                access,
-                pid,
-                tid,
-                op,
-                path,
-                second,
-            } => {
-                let who = Actor {
-                    number: *access,
-                    pid: *pid,
-                    tid: *tid,
-                };
-                self.begin(who, *op, path.as_slice(), second)
-            }
-            Step::Advance { access } => self.advance(*access),
-            Step::Read { group, size } => self.read(*group, *size),
-            Step::Write { group, bytes } => self.write(*group, bytes.as_slice()),
-            Step::Close { group } => self.close(*group),
-            Step::Grace => Ok(self.grace()),
-        }
-    }
-
-    /// `grace`: reclaims retired marks, and starts a batch of those that wait.
-    #[tactic(auto, unfolding(fan_machine::specs::Batches::graced))]
-    fn grace(&mut self) -> Reply
-        requires safe { IsSafe self.old.steps self.old }
-        ensures done { (world : WorldState) → IsMachine self.old world
-            → IsDone self.new (Ok result) (graced world) }
-        ensures safe { IsSafe (self.old.steps + 1) self.new }
-        ensures steps { self.new.steps ≡ self.old.steps }
-    {
-        Reply::Reclaimed(self.retirement.grace(&self.accesses))
+        let reply = match self.inner.attempt(step) {
+            Ok(reply) => reply,
+            Err(Refused::No(errno)) => Reply::Refused(errno),
+            Err(Refused::NoMemory) => return Err(NoMemory),
+        };
+        self.inner.count_step();
+        Ok(reply)
     }
 }

@@ -1,4 +1,4 @@
-// `mark`, fanotify_mark(2), and the one place in which marks change.
+// `mark`: fanotify_mark(2).
 ghost use Rattle.std.specs.Prelude.{◌≡◌, ◌≢◌, ◌≤◌, ◌+◌, ◌*◌, ◌<◌, ◌^◌, All, IfOk, IfSome, OnErr, false, true, length};
 ghost use Rattle.fan_bits.specs.Marks.{IsChange, IsMarkList, changed, retired};
 ghost use Rattle.fan_bits.specs.Refusals.{lacks_mark, makes_mark};
@@ -7,16 +7,15 @@ ghost use Rattle.fan_bits.specs.Words.{class_of};
 ghost use Rattle.fan_machine.specs.World.{WorldState};
 ghost use Rattle.fan_world.specs.Bounds.{AreClassed, HasClass, IsClassed, IsSafe};
 ghost use Rattle.fan_world.specs.Done.{IsDone};
-ghost use Rattle.fan_world.specs.Machine.{IsMachine};
+ghost use Rattle.fan_world.specs.Machine.{IsMachineOver};
 
-use super::machine::Machine;
+use super::inner::Inner;
 use super::refused::Refused;
-use super::retirement::Retirement;
+use super::sections::Sections;
 use fan_bits::{Change, Errno, InitWords, MarkWords, Verb, mark_words};
-use fan_marks::MarkBook;
 use fan_script::Reply;
 
-impl Machine {
+impl<S: Sections> Inner<S> {
     /// `mark`: EBADF, EINVAL, the walk, ENOTDIR, ENOENT, ENOSPC.
     #[tactic(auto, unfolding(fan_machine::specs::Marking::marked))]
     pub(crate) fn mark(
@@ -27,16 +26,16 @@ impl Machine {
         path: &[u8],
     ) -> Result<Reply, Refused>
         requires few { self.old.steps < 2 ^ 30 }
-        requires safe { IsSafe self.old.steps self.old }
-        ensures done { (world : WorldState) → IsMachine self.old world
-            → IsDone self.new result (marked world group flags mask path.now) }
-        ensures safe { IsSafe (self.old.steps + 1) self.new }
+        requires safe { IsSafe S.inside self.old.steps self.old }
+        ensures done { (world : WorldState) → IsMachineOver S.shows S.honest self.old world
+            → IsDone S.shows S.honest self.new result (marked world group flags mask path.now) }
+        ensures safe { IsSafe S.inside (self.old.steps + 1) self.new }
         ensures steps { self.new.steps ≡ self.old.steps }
         ensures err { OnErr result (self.new ≡ self.old) }
     {
         let change = self.change_for(group, flags, mask, path)?;
         self.marks.reserve()?;
-        change_marks(&mut self.marks, &mut self.retirement, &change);
+        self.marks.change(&change)?;
         Ok(Reply::Done)
     }
 
@@ -44,7 +43,7 @@ impl Machine {
     #[tactic(auto, unfolding(fan_machine::specs::Marking::change_for))]
     fn change_for(&self, group: u32, flags: u32, mask: u64, path: &[u8]) -> Result<Change, Errno>
         requires { AreClassed self.now.groups self.now.marks }
-        ensures change { (world : WorldState) → IsMachine self.now world
+        ensures change { (world : WorldState) → IsMachineOver S.shows S.honest self.now world
             → result ≡ change_for world group flags mask path.now }
         ensures is_change { IfOk result (λ change. IsChange self.now.marks change) }
         ensures has_mark { IfOk result (λ change. lacks_mark self.now.marks change ≡ false) }
@@ -74,7 +73,7 @@ impl Machine {
         requires classes { AreClassed self.now.groups self.now.marks }
         requires class { HasClass self.now.groups group (class_of init.bits) }
         requires verb { words.verb ≢ Verb.Flush }
-        ensures change { (world : WorldState) → IsMachine self.now world
+        ensures change { (world : WorldState) → IsMachineOver S.shows S.honest self.now world
             → result ≡ put_on world group init.bits words path.now }
         ensures is_change { IfOk result (λ change. IsChange self.now.marks change) }
         ensures has_mark { IfOk result (λ change. lacks_mark self.now.marks change ≡ false) }
@@ -94,25 +93,5 @@ impl Machine {
             Some(errno) => Err(errno),
             None => Ok(change),
         }
-    }
-}
-
-/// Changes the marks; those that the change retires wait for a batch. Allocates nothing, since there
-/// is room for a new mark.
-pub(crate) fn change_marks(book: &mut MarkBook, retirement: &mut Retirement, change: &Change)
-    requires is_change { IsChange book.old.marks change.now }
-    requires has_mark { lacks_mark book.old.marks change.now ≡ false }
-    requires room { makes_mark book.old.marks change.now ≡ true → 1 ≤ book.old.spare }
-    requires few { retirement.old.waiting < 2 ^ 63 }
-    ensures marks { book.new.marks ≡ changed book.old.marks change.now }
-    ensures waiting { retirement.new.waiting
-        ≡ retirement.old.waiting + length (retired book.old.marks change.now) }
-    ensures few { length (retired book.old.marks change.now) < 2 ^ 32 }
-    ensures batch { retirement.new.batch ≡ retirement.old.batch }
-    ensures whole { IsMarkList book.new.marks }
-{
-    match book.change(change, true) {
-        Ok(done) => retirement.retire(done.retired),
-        Err(_) => unreachable!(),
     }
 }

@@ -1,32 +1,37 @@
 // The open accesses by their numbers.
-ghost use Rattle.std.specs.Prelude.{◌≡◌, ◌≤◌, ◌<◌, ◌^◌, ℕ, List, [], All, IfNone, IfOk, IfSome, None, OnErr, OnOk};
+ghost use Rattle.std.specs.Prelude.{◌≡◌, ◌+◌, ◌≤◌, ◌<◌, ◌^◌, ◌∷◌, ◌++◌, [], All, IfNone, IfOk, IfSome, None, OnErr, OnOk, Some, length};
 ghost use Rattle.std.specs.BTreeMap.{insert_entry, is_at};
-ghost use Rattle.std.specs.List.{AllZip, list_any};
+ghost use Rattle.std.specs.List.{list_any};
 ghost use Rattle.std.specs.Map.{keys_of, lookup, remove_entry, values_of};
 ghost use Rattle.std.specs.Ordering.{nat_cmp};
-ghost use Rattle.fan_access.specs.Access.{AccessState};
+ghost use Rattle.fan_access.specs.Access.{AccessState, access_step};
+ghost use Rattle.fan_access.specs.Kept.{IsAccess};
 ghost use Rattle.fan_listener.specs.Groups.{IsCalledOnce};
-ghost use Rattle.fan_world.specs.Machine.{IsOpen};
+ghost use Rattle.fan_world.specs.declared.open_accesses.OpenAccess.{OpenAccess};
+ghost use Rattle.fan_world.specs.Machine.{sections_of};
 ghost use Rattle.fan_world.specs.Opened.{HasStepped, is_through};
 ghost use Rattle.fan_world.specs.Retired.{has_up_to};
+ghost use Rattle.fan_world.specs.Sections.{Keeps};
 
+use super::marks::Marks;
+use super::sections::Sections;
 use fan_access::{Access, StepOutcome};
+use fan_grace::Section;
 use fan_groups::Groups;
 use fan_io::NoMemory;
 use fan_map::Map;
 use fan_map::counts::{add_one, number_at, take_one};
-use fan_near::NearMarks;
 use fan_slots::Slots;
 use std::alloc::Global;
 use std::marker::Model;
 
-/// An open access, and the marks by which it goes.
+/// An open access, and the section by which it goes.
 #[derive(Drop)]
 pub(crate) struct OpenAccess {
     /// Where it stands.
     pub(crate) access: Access,
-    /// The marks near its spots, as they stood at its begin.
-    pub(crate) marks: NearMarks,
+    /// The section that shows the marks as they stood at its begin.
+    pub(crate) section: Section,
 }
 
 /// The open accesses, found by their numbers, and the greatest number that an access had.
@@ -111,6 +116,9 @@ impl OpenAccesses {
         requires room { 1 ≤ self.old.spare }
         requires above { self.old.last < number }
         ensures entries { self.new.entries ≡ insert_entry nat_cmp self.old.entries number begun }
+        ensures sections { sections_of self.new.entries
+            ≡ sections_of self.old.entries ++ begun.section ∷ [] }
+        ensures one_more { length self.new.entries ≡ length self.old.entries + 1 }
         ensures last { self.new.last ≡ number }
     {
         add_one(&mut self.through, begun.access.mount());
@@ -118,46 +126,66 @@ impl OpenAccesses {
         self.last = number;
     }
 
-    /// Lets the access with a number do its next single step, after which it is open no more if the
-    /// outcome ends it; None exactly if no such access is open. The step itself allocates nothing;
-    /// `NoMemory` comes from the listeners, and changes nothing.
-    pub(crate) fn step(
+    /// Lets the access with a number do its next single step by the marks that its section shows.
+    /// If the outcome ends it, it is open no more, and leaves its section. None exactly if no such
+    /// access is open. The step itself allocates nothing; `NoMemory` comes from the listeners, and
+    /// changes nothing.
+    pub(crate) fn step<S: Sections>(
         &mut self,
+        marks: &mut Marks<S>,
         groups: &mut Groups,
         number: u32,
     ) -> Result<Option<StepOutcome>, NoMemory>
-        requires { All (λ listener. listener.next_entry ≤ 2 ^ 31) groups.old }
+        requires entries { All (λ listener. listener.next_entry ≤ 2 ^ 31) groups.old }
+        requires there { S.inside marks.old.sections (sections_of self.old.entries) }
         ensures stepped { IfOk result (λ found. IfSome found (λ outcome.
-            (accesses : List (ℕ × AccessState)) → AllZip IsOpen self.old.entries accesses
-            → HasStepped number outcome groups.old groups.new self.new.entries accesses)) }
+            (kept : OpenAccess) (access : AccessState)
+            → lookup (is_at (nat_cmp number)) self.old.entries ≡ Some kept
+            → S.shows marks.old.sections kept.section access.view
+            → IsAccess access.view kept.access access
+            → HasStepped number kept.section access.view (access_step groups.old access) outcome
+            groups.new self.old.entries self.new.entries)) }
+        ensures some { IfOk result (λ found. IfSome found (λ _. (kept : OpenAccess)
+            × (lookup (is_at (nat_cmp number)) self.old.entries ≡ Some kept))) }
         ensures none { IfOk result (λ found. IfNone found
             (lookup (is_at (nat_cmp number)) self.old.entries ≡ None)) }
         ensures none_same { IfOk result (λ found. IfNone found
             (self.new.entries ≡ self.old.entries)) }
+        ensures none_marks { IfOk result (λ found. IfNone found (marks.new ≡ marks.old)) }
         ensures none_groups { IfOk result (λ found. IfNone found (groups.new ≡ groups.old)) }
+        ensures keeps { Keeps S.inside S.shows S.honest marks.old.sections marks.new.sections
+            (sections_of self.new.entries) }
+        ensures marks { marks.new ≡ record marks.old { sections = marks.new.sections } }
         ensures calls { IsCalledOnce groups.old groups.new }
+        ensures few { length self.new.entries ≤ length self.old.entries }
         ensures last { self.new.last ≡ self.old.last }
         ensures err { OnErr result (self.new.entries ≡ self.old.entries) }
+        ensures err_marks { OnErr result (marks.new ≡ marks.old) }
         ensures groups { OnErr result (groups.new ≡ groups.old) }
     {
         let Some(stepping) = self.by_number.get_mut(number) else {
             return Ok(None);
         };
-        let outcome = stepping.marks.step(&mut stepping.access, groups)?;
+        let outcome = marks.step(stepping.section, &mut stepping.access, groups)?;
         if outcome.ends_access() {
-            self.end(number);
+            self.end(marks, number);
         }
         Ok(Some(outcome))
     }
 
-    // Takes away an access that is finished.
-    fn end(&mut self, number: u32)
+    // Takes away an access that is finished, and leaves its section.
+    fn end<S: Sections>(&mut self, marks: &mut Marks<S>, number: u32)
+        requires there { S.inside marks.old.sections (sections_of self.old.entries) }
         ensures entries { self.new.entries
             ≡ remove_entry (is_at (nat_cmp number)) self.old.entries }
         ensures last { self.new.last ≡ self.old.last }
+        ensures keeps { Keeps S.inside S.shows S.honest marks.old.sections marks.new.sections
+            (sections_of self.new.entries) }
+        ensures marks { marks.new ≡ record marks.old { sections = marks.new.sections } }
     {
         if let Some(ended) = self.by_number.remove(number) {
             take_one(&mut self.through, ended.access.mount());
+            marks.leave(ended.section);
         }
     }
 }

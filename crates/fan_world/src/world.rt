@@ -1,66 +1,67 @@
-// The machine as its callers see it, and one step of it.
-ghost use Rattle.std.specs.Prelude.{◌≡◌, ◌+◌, ◌<◌, ◌^◌, IfOk, OnErr, OnOk};
-ghost use Rattle.fan_machine.specs.Next.{next};
-ghost use Rattle.fan_machine.specs.World.{WorldState, initial_world};
-ghost use Rattle.fan_world.specs.Machine.{IsMachine, IsStep};
+// The machine over the table in which marks stand in rows.
+ghost use Rattle.std.specs.Prelude.{◌≡◌, IfOk};
+ghost use Rattle.fan_machine.specs.World.{initial_world};
+ghost use Rattle.fan_world.specs.Machine.{IsMachine};
 
 use super::machine::Machine;
-use super::refused::Refused;
+use super::sections::Sections;
+use fan_bits::{Change, Changed, Mark, Order};
+use fan_grace::{Section, Table};
 use fan_io::NoMemory;
-use fan_script::{Reply, Step};
 use std::alloc::Global;
-use std::marker::Model;
 
-/// The machine, which does one step of a script at a time.
-#[derive(Drop)]
-pub struct World {
-    machine: Machine,
-}
+/// The machine over the table in which marks stand in rows. Its accesses go by the marks as they
+/// stood at their begin.
+pub type World = Machine<Table>;
 
-impl Model for World {
-    ghost use Rattle.fan_world.specs.Bounds.{IsSafe};
-    ghost use Rattle.fan_world.specs.Machine.{Parts};
-
-    ghost Value = { Parts };
-
-    ghost view = { λ w. w.machine };
-
-    ghost invariant = { λ w. IsSafe w.machine.steps w.machine };
-}
-
-impl World {
+impl Machine<Table> {
     /// The machine at the start: a filesystem with its root, mounted at `/`, and no group.
+    ///
+    /// # Errors
+    /// `NoMemory` if there was none.
     pub fn new(alloc: Global) -> Result<World, NoMemory>
         ensures machine { IfOk result (λ world. IsMachine world initial_world) }
         ensures steps { IfOk result (λ world. world.steps ≡ 0) }
     {
-        Ok(World {
-            machine: Machine::new(alloc)?,
-        })
+        Machine::over(alloc, Table::new(alloc)?)
+    }
+}
+
+impl Sections for Table {
+    ghost use Rattle.std.specs.Prelude.{◌≡◌, ◌+◌};
+    ghost use Rattle.fan_grace.specs.Tables.{IsInside, Present, Shows};
+    ghost use Rattle.fan_world.specs.Machine.{IsHonest};
+    ghost use Rattle.fan_world.specs.TableLaws.{inside_shows};
+
+    ghost inside = { IsInside };
+
+    ghost shows = { Shows };
+
+    ghost honest = { IsHonest };
+
+    ghost present = { Present };
+
+    ghost entered = { λ old section new. new ≡ record old { inside = old.inside + 1 } };
+
+    ghost is_list = { λ table section marks shown. shown.1 };
+
+    ghost shows_some = { inside_shows };
+
+    ghost present_list = { λ table marks honest present. present.1 };
+
+    fn enter(&mut self) -> Section {
+        self.enter()
     }
 
-    /// How many steps were made, want of memory left out.
-    pub fn steps(&self) -> u32
-        ensures { result ≡ self.now.steps }
-    {
-        self.machine.steps()
+    fn leave(&mut self, section: Section) {
+        self.leave(section);
     }
 
-    /// Does one step and gives its reply. Nothing changes on want of memory.
-    #[tactic(auto, unfolding(fan_machine::specs::Next::next))]
-    pub fn step(&mut self, step: &Step) -> Result<Reply, NoMemory>
-        requires { self.old.steps < 2 ^ 30 }
-        ensures ok { IfOk result (λ reply. (world : WorldState) → IsMachine self.old world
-            → IsStep self.new reply (next world step.now)) }
-        ensures steps { OnOk result (self.new.steps ≡ self.old.steps + 1) }
-        ensures err { OnErr result (self.new ≡ self.old) }
-    {
-        let reply = match self.machine.attempt(step) {
-            Ok(reply) => reply,
-            Err(Refused::No(errno)) => Reply::Refused(errno),
-            Err(Refused::NoMemory) => return Err(NoMemory),
-        };
-        self.machine.count_step();
-        Ok(reply)
+    fn next(&mut self, section: &Section, object: u32, after: Order) -> Option<Mark> {
+        self.next(section, object, after)
+    }
+
+    fn change(&mut self, change: &Change) -> Result<Changed, NoMemory> {
+        self.change(change)
     }
 }
