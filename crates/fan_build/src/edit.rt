@@ -82,6 +82,7 @@ impl Edit {
 }
 
 /// What a change leaves of a mark to which it comes.
+#[inline(always)]
 pub(crate) fn kept(change: &Change, mark: Mark) -> Option<Mark>
     ensures { result ≡ kept change.now mark }
 {
@@ -101,6 +102,7 @@ pub(crate) fn kept(change: &Change, mark: Mark) -> Option<Mark>
 }
 
 // The mark, unless it is removed.
+#[inline(always)]
 fn unless(removed: bool, mark: Mark) -> Option<Mark>
     ensures { result ≡ (if removed then None else Some mark) }
 {
@@ -124,6 +126,7 @@ fn cleared(object: u32, mark: Mark) -> Option<Mark>
 }
 
 /// Whether a mark comes behind the place where bits are put.
+#[inline(always)]
 pub(crate) fn is_past(change: &Change, mark: &Mark) -> bool
     ensures { result ≡ is_past change.now mark.now }
 {
@@ -134,6 +137,7 @@ pub(crate) fn is_past(change: &Change, mark: &Mark) -> bool
 }
 
 /// Whether a mark is the one on which bits are put.
+#[inline(always)]
 pub(crate) fn is_at(change: &Change, mark: &Mark) -> bool
     ensures { result ≡ is_at change.now mark.now }
 {
@@ -144,6 +148,7 @@ pub(crate) fn is_at(change: &Change, mark: &Mark) -> bool
 }
 
 /// Whether what is left of a mark is the mark itself.
+#[inline(always)]
 pub(crate) fn stays(left: Option<Mark>, mark: Mark) -> bool
     ensures { result ≡ stays left mark }
 {
