@@ -1,8 +1,11 @@
+pub mod Dropping
 pub mod Empty
 pub mod Frames
 pub mod Hinted
+pub mod InTurn
 pub mod Making
 pub mod Notified
+pub mod NotedLemmas
 pub mod Numbers
 pub mod Sections
 pub mod Words

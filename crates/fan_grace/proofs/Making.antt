@@ -6,16 +6,16 @@ use Rattle.std.proofs.lemmas.Option.{slice_get_past}
 use Rattle.std.specs.List.{range_with_len}
 use Rattle.fan_bits.specs.declared.change.Change.{Change}
 use Rattle.fan_bits.specs.declared.mark.Mark.{Mark}
-use Rattle.fan_bits.specs.Marks.{IsMarkList, changed, retired}
-use Rattle.fan_bits.proofs.MarkLists.{changed_keeps_list}
+use Rattle.fan_bits.specs.Marks.{IsMarkList, gone}
 use Rattle.fan_rows.specs.Rows.{times}
 use Rattle.fan_rows.specs.Trees.{Pictures, PicturesBy, Tree, rows_of}
 use Rattle.fan_rows.proofs.Chains.{times_append}
 use Rattle.fan_rows.proofs.SameLists.{one_list}
 use Rattle.fan_rows.proofs.TreeLemmas.{one_tree}
-use Rattle.fan_build.specs.declared.publish.Built.{Built}
-use Rattle.fan_build.specs.Needs.{needed_rows}
-use Rattle.fan_build.specs.Publishing.{CanChange, CanPublish, Reaches, Wrote, given_since, retired_since}
+use Rattle.fan_build.specs.Needs.{needed_between}
+use Rattle.fan_build.specs.Publishing.{CanChange, Reaches, Wrote, given_since, retired_since}
+use Rattle.fan_build.specs.Publishing as publishing
+use Rattle.fan_grace.specs.declared.made.Made.{Made}
 use Rattle.fan_grace.specs.Stored.{CanMake, Extends, IsMade, IsStored, StoredState, given_below, listed_rows, row_count}
 use Rattle.fan_grace.proofs.Frames.{still_pictures, tree_pictures}
 use Rattle.fan_grace.proofs.Numbers.{range_before, range_behind, ranges_apart}
@@ -44,11 +44,11 @@ room_made old mid count needed is words next retired = record {
   retired = retired;
 }
 
-module _ (old mid : StoredState) (root : ℕ) (marks : List Mark) (tree : Tree) (change : Change)
+module _ (old mid : StoredState) (root : ℕ) (marks after : List Mark) (tree : Tree) (change : Change)
     (can : CanMake old root marks tree change) (above : 1 ≤ old.next)
-    (roomy : Roomy old mid (needed_rows marks change)) where
+    (roomy : Roomy old mid (needed_between marks after)) where
   abbrev needed : ℕ
-  needed = needed_rows marks change
+  needed = needed_between marks after
 
   length_mid : length mid.words ≡ 4 * (old.next + needed)
   length_mid =
@@ -72,7 +72,7 @@ module _ (old mid : StoredState) (root : ℕ) (marks : List Mark) (tree : Tree) 
   pictured_mid : PicturesBy (slice_get mid.words) root tree marks
   pictured_mid = tree_pictures old.words mid.words old.next can.kept.full extends_mid root tree marks can.kept.pictured
 
-  pub can_publish : CanPublish (slice_get mid.words) (listed_rows mid) root marks change
+  pub can_publish : publishing.CanMake (slice_get mid.words) (listed_rows mid) root marks change after
   can_publish = record {
     possible = record { pictured = (tree, pictured_mid); list = can.kept.list; allowed = can.allowed };
     enough =
@@ -93,30 +93,30 @@ module _ (old mid : StoredState) (root : ℕ) (marks : List Mark) (tree : Tree) 
   }
 
 -- what publishing tells
-pub record Published (mid new : StoredState) (root : ℕ) (marks : List Mark) (change : Change) (built : Built)
+pub record Published (mid new : StoredState) (root : ℕ) (marks after : List Mark) (made : Made)
     : Type 0 where
-  pub pictures : Pictures (slice_get new.words) built.root (changed marks change)
+  pub pictures : Pictures (slice_get new.words) made.root after
   pub wrote : Wrote (slice_get mid.words) (slice_get new.words) (listed_rows mid) (listed_rows new)
-  pub needed : length (given_since (listed_rows mid) (listed_rows new)) ≡ needed_rows marks change
-  pub marks_is : built.marks_retired ≡ length (retired marks change)
-  pub same : changed marks change ≡ marks → built.root ≡ root
-  pub once : (before after : List ℕ) → Reaches (slice_get mid.words) root before
-      → Reaches (slice_get new.words) built.root after → (row : ℕ)
+  pub needed : length (given_since (listed_rows mid) (listed_rows new)) ≡ needed_between marks after
+  pub marks_is : made.marks ≡ length (gone marks after)
+  pub same : after ≡ marks → made.root ≡ root
+  pub once : (before behind : List ℕ) → Reaches (slice_get mid.words) root before
+      → Reaches (slice_get new.words) made.root behind → (row : ℕ)
       → times row before + times row (given_since (listed_rows mid) (listed_rows new))
-      ≡ times row after + times row (retired_since (listed_rows mid) (listed_rows new))
+      ≡ times row behind + times row (retired_since (listed_rows mid) (listed_rows new))
 
-module _ (old mid new : StoredState) (root : ℕ) (marks : List Mark) (tree : Tree) (change : Change)
-    (built : Built) (can : CanMake old root marks tree change) (above : 1 ≤ old.next)
-    (roomy : Roomy old mid (needed_rows marks change)) (is : Published mid new root marks change built)
-    (stored : IsStored new) where
+module _ (old mid new : StoredState) (root : ℕ) (marks after : List Mark) (tree : Tree) (change : Change)
+    (made : Made) (can : CanMake old root marks tree change) (above : 1 ≤ old.next)
+    (roomy : Roomy old mid (needed_between marks after)) (is : Published mid new root marks after made)
+    (list : IsMarkList after) (stored : IsStored new) where
   abbrev taken : ℕ
-  taken = needed_rows marks change
+  taken = needed_between marks after
 
   abbrev since : List ℕ
   since = given_since (listed_rows mid) (listed_rows new)
 
-  abbrev gone : List ℕ
-  gone = retired_since (listed_rows mid) (listed_rows new)
+  abbrev left : List ℕ
+  left = retired_since (listed_rows mid) (listed_rows new)
 
   -- all rows that were added were given out
   next_new : new.next ≡ old.next + taken
@@ -132,14 +132,14 @@ module _ (old mid new : StoredState) (root : ℕ) (marks : List Mark) (tree : Tr
   not_given : (row : ℕ) → times row (range_with_len old.next taken) ≡ 0 → times row since ≡ 0
   not_given row none =
       let free : times row (listed_rows mid).free ≡ 0 =
-      ap (times row) (free_is old mid root marks tree change can above roomy) ∙ none in
+      ap (times row) (free_is old mid root marks after tree change can above roomy) ∙ none in
       omega (arith, is.wrote.from_free row)
 
   length_new : length new.words ≡ 4 * new.next
   length_new =
       let end = old.next + taken in
       let none = not_given end (range_behind end old.next taken (omega arith)) in
-      let count = length_mid old mid root marks tree change can above roomy in
+      let count = length_mid old mid root marks after tree change can above roomy in
       let last : slice_get new.words (4 * end + 0) ≡ None =
       is.wrote.others end 0 (omega arith) none ∙ slice_get_past mid.words (4 * end + 0) (omega arith) in
       omega (arith, ended new.words (4 * end + 0) last, next_new, stored.within, stored.whole)
@@ -154,37 +154,39 @@ module _ (old mid new : StoredState) (root : ℕ) (marks : List Mark) (tree : Tr
       let at : 4 * (place / 4) + place % 4 ≡ place = omega arith in
       subst (λ p. slice_get new.words p ≡ slice_get mid.words p) at
       (untouched (place / 4) (place % 4) (omega (arith, can.kept.full)) (omega arith))
-      ∙ extends_mid old mid root marks tree change can above roomy place small
-
-  list_new : IsMarkList (changed marks change)
-  list_new = changed_keeps_list marks change can.allowed can.kept.list
+      ∙ extends_mid old mid root marks after tree change can above roomy place small
 
   counts_new : (row : ℕ) → times row (rows_of is.pictures.0) + times row new.retired
       ≡ times row (given_below new.next)
   counts_new row =
-      let before = pictured_mid old mid root marks tree change can above roomy in
+      let before = pictured_mid old mid root marks after tree change can above roomy in
       let after = is.pictures.1 in
       let moved = is.once (rows_of tree) (rows_of is.pictures.0) (tree, before.lies, before.root_is, refl)
       (is.pictures.0, after.lies, after.root_is, refl) row in
       let given : times row (given_below new.next) ≡ times row (given_below mid.next) + times row since =
       ap (times row) is.wrote.given_on ∙ times_append row (given_below mid.next) since in
-      let retired : times row new.retired ≡ times row mid.retired + times row gone =
-      ap (times row) is.wrote.retired_on ∙ times_append row mid.retired gone in
+      let retired : times row new.retired ≡ times row mid.retired + times row left =
+      ap (times row) is.wrote.retired_on ∙ times_append row mid.retired left in
       let was : times row mid.retired ≡ times row old.retired = ap (times row) roomy.retired in
       let first : times row (given_below mid.next) ≡ times row (given_below old.next) =
       ap (λ next. times row (given_below next)) roomy.next in
       omega (arith, can.kept.counts row)
 
-  pub made : IsMade old new root marks change built
-  made = record {
+  pub made_of : IsMade old new root marks after made
+  made_of = record {
     tree = is.pictures.0;
-    kept = record { full = length_new; pictured = is.pictures.1; list = list_new; counts = counts_new };
-    extends = extends_new;
+    kept = record { full = length_new; pictured = is.pictures.1; list = list; counts = counts_new };
+    grown = record {
+      longer = omega (arith, length_new, next_new, can.kept.full);
+      extends = extends_new;
+      more = left;
+      retired = is.wrote.retired_on ∙ ap (λ rows. rows ++ left) roomy.retired;
+    };
     same = is.same;
-    differs = λ root_is. one_list (slice_get new.words) root (changed marks change) marks
-        (subst (λ r. Pictures (slice_get new.words) r (changed marks change)) root_is is.pictures)
+    differs = λ root_is. one_list (slice_get new.words) root after marks
+        (subst (λ r. Pictures (slice_get new.words) r after) root_is is.pictures)
         (still_pictures old.words new.words old.next can.kept.full extends_new root marks
         (tree, can.kept.pictured))
-        list_new can.kept.list;
-    retired_is = is.marks_is;
+        list can.kept.list;
+    gone_are = is.marks_is;
   }

@@ -3,6 +3,7 @@ use Rattle.std.specs.Prelude.{◌≡◌, ℕ, ◌≤◌, List, ◌++◌, Option,
 use Rattle.fan_bits.specs.Marks.{order_of}
 use Rattle.fan_rows.specs.Trees.{Lies, Link, Tree, chain_at, digits, first_row, top}
 use Rattle.fan_grace.specs.declared.hints.Hint.{Hint}
+use Rattle.fan_grace.specs.Noted.{AreNoted}
 use Rattle.fan_grace.specs.Stored.{IsKept, StoredState}
 
 -- in a chain, all marks before a row have an order of at most a number; row 0 is its end
@@ -25,7 +26,8 @@ abbrev pub IsStart : (ℕ → Option ℕ) → ℕ → ℕ → ℕ → ℕ → Ty
 IsStart words root object after row =
     (tree : Tree) × Lies words tree 8 × (top tree ≡ root) × StandsAt (chain_at tree (digits object)) after row
 
--- a table keeps its rows, and its hints are true
-pub record IsTable (stored : StoredState) (root : ℕ) (hints : List Hint) : Type 0 where
+-- a table keeps its rows, its marks are noted, and its hints are true
+pub record IsTable (stored : StoredState) (noted : List (ℕ × ℕ)) (root : ℕ) (hints : List Hint) : Type 0 where
   pub kept : IsKept stored root
+  pub marked : AreNoted noted kept.0
   pub hinted : All (IsHint (slice_get stored.words)) hints

@@ -12,7 +12,11 @@
 #![tactic(auto)]
 
 mod cells;
+mod changing;
 mod hints;
+mod in_turn;
+mod made;
+mod noted;
 mod section;
 mod stored;
 mod table;

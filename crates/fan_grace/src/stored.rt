@@ -1,12 +1,15 @@
 // Rows in a vector: those that were given out, and behind them those that are free.
 ghost use Rattle.std.specs.Prelude.{◌≡◌, ◌≢◌, ◌≤◌, ◌<◌, ◌+◌, ◌++◌, ◌*◌, ◌/◌, ℕ, [], List, IfOk, OnErr, OnOk, length, replicate, slice_get};
 ghost use Rattle.fan_bits.specs.declared.mark.Mark.{Mark};
+ghost use Rattle.fan_bits.specs.Marks.{changed};
 ghost use Rattle.fan_rows.specs.Trees.{Tree};
-ghost use Rattle.fan_grace.specs.Stored.{CanMake, IsMade, IsStored, listed_rows};
+ghost use Rattle.fan_build.specs.Objects.{changed_on};
+ghost use Rattle.fan_grace.specs.Stored.{CanMake, IsMade, IsStored, cut, listed_rows};
 
 use super::cells::TableCells;
+use super::made::Made;
 use fan_bits::Change;
-use fan_build::{Built, NewRows, publish_rows, rows_needed};
+use fan_build::{NewRows, publish_on, publish_rows, rows_needed, rows_needed_on};
 use fan_io::NoMemory;
 use fan_rows::Cells;
 use std::alloc::Global;
@@ -21,6 +24,13 @@ pub(crate) struct StoredRows {
     next: u64,
     // The rows that were given up, with room for all rows.
     retired: Vec<u64>,
+}
+
+/// How many rows there are, and how many were given up.
+#[derive(Clone, Copy)]
+pub(crate) struct Extent {
+    pub(crate) rows: u64,
+    pub(crate) retired: usize,
 }
 
 impl Model for StoredRows {
@@ -67,20 +77,43 @@ impl StoredRows {
     ///
     /// # Errors
     /// `NoMemory` if no memory was found for the rows that it takes; nothing is changed then.
-    pub(crate) fn change(&mut self, root: u64, change: &Change) -> Result<Built, NoMemory>
+    pub(crate) fn change(&mut self, root: u64, change: &Change) -> Result<Made, NoMemory>
         requires { (marks : List Mark) × (tree : Tree)
             × CanMake self.old root marks tree change.now }
         ensures made { (marks : List Mark) (tree : Tree)
             → CanMake self.old root marks tree change.now
-            → IfOk result (λ built. IsMade self.old self.new root marks change.now built) }
+            → IfOk result (IsMade self.old self.new root marks (changed marks change.now)) }
         ensures err { OnErr result (self.new ≡ self.old) }
     {
-        let mut cells = self.cells();
-        let needed = rows_needed(&mut cells, root, change);
+        let needed = rows_needed(&mut self.cells(), root, change);
         self.make_room(needed)?;
         let built = publish_rows(self, root, change);
         let _ = &self.words; // What stands in it is still a number of rows.
-        Ok(built)
+        Ok(Made::of(built))
+    }
+
+    /// Makes a change on one object.
+    ///
+    /// # Errors
+    /// `NoMemory` if no memory was found for the rows that it takes; nothing is changed then.
+    pub(crate) fn change_on(
+        &mut self,
+        root: u64,
+        change: &Change,
+        object: u32,
+    ) -> Result<Made, NoMemory>
+        requires { (marks : List Mark) × (tree : Tree)
+            × CanMake self.old root marks tree change.now }
+        ensures made { (marks : List Mark) (tree : Tree)
+            → CanMake self.old root marks tree change.now → IfOk result
+            (IsMade self.old self.new root marks (changed_on marks change.now object)) }
+        ensures err { OnErr result (self.new ≡ self.old) }
+    {
+        let needed = rows_needed_on(&mut self.cells(), root, change, object);
+        self.make_room(needed)?;
+        let built = publish_on(self, root, change, object);
+        let _ = &self.words; // The same.
+        Ok(Made::of(built))
     }
 
     // Adds so many free rows.
@@ -99,6 +132,29 @@ impl StoredRows {
             .reserve(rows.saturating_sub(self.retired.len()))?;
         self.words.resize(length, 0)?;
         Ok(())
+    }
+
+    /// How many rows there are, with row 0, and how many were given up.
+    pub(crate) fn extent(&self) -> Extent
+        ensures rows { result.rows ≡ self.now.next }
+        ensures retired { result.retired ≡ length self.now.retired }
+        ensures stored { IsStored self.now }
+    {
+        Extent {
+            rows: self.next,
+            retired: self.retired.len(),
+        }
+    }
+
+    /// Takes away all but the first rows, and all but the first of those that were given up.
+    pub(crate) fn cut_back(&mut self, extent: Extent)
+        requires words { 4 * extent.rows ≤ length self.old.words }
+        requires stored { IsStored (cut self.old extent.rows extent.retired) }
+        ensures { self.new ≡ cut self.old extent.rows extent.retired }
+    {
+        self.words.truncate(4 * extent.rows as usize);
+        self.retired.truncate(extent.retired);
+        self.next = extent.rows;
     }
 }
 

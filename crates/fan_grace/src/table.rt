@@ -10,7 +10,9 @@ ghost use Rattle.fan_grace.specs.Hints.{IsStart};
 ghost use Rattle.fan_grace.specs.Tables.{IsInside, Present, Shows, word_at};
 
 use super::cells::TableCells;
+use super::changing::change_noted;
 use super::hints::{Hint, Hints};
+use super::noted::Noted;
 use super::section::Section;
 use super::stored::StoredRows;
 use super::walk::row_above;
@@ -28,6 +30,8 @@ use std::marker::Model;
 #[derive(Drop)]
 pub struct Table {
     rows: StoredRows,
+    // On which objects each group has marks.
+    noted: Noted,
     // The root of the present marks.
     root: u64,
     // How many sections are in.
@@ -50,7 +54,7 @@ impl Model for Table {
       waiting = t.rows.retired;
     } };
 
-    ghost invariant = { λ t. IsTable t.rows t.root t.hints.hints };
+    ghost invariant = { λ t. IsTable t.rows t.noted.entries t.root t.hints.hints };
 }
 
 impl Table {
@@ -65,6 +69,7 @@ impl Table {
         let rows = StoredRows::new(alloc)?;
         Ok(Table {
             rows,
+            noted: Noted::new(alloc),
             root: 0,
             inside: 0,
             hints: Hints::new(),
@@ -180,12 +185,12 @@ impl Table {
             → Shows self.new section marks }
         ensures err { OnErr result (self.new ≡ self.old) }
     {
-        let built = self.rows.change(self.root, change)?;
-        let changed = built.root != self.root;
-        self.root = built.root;
+        let made = change_noted(&mut self.rows, &mut self.noted, self.root, change)?;
+        let changed = made.root != self.root;
+        self.root = made.root;
         Ok(Changed {
             changed,
-            retired: built.marks_retired,
+            retired: made.marks,
         })
     }
 }

@@ -6,6 +6,7 @@ use Rattle.fan_grace.proofs.table.Table.next.Goals as goal
 pub invariant_of-self : goal.invariant_of-self
 invariant_of-self c = record {
   kept = c.self.invariant.kept;
+  marked = c.self.invariant.marked;
   hinted = rw c.keep.ensures (hint_kept (slice_get c.self.inside.rows.words) c.self.inside.hints.hints
       (c.args.object % 16) _ c.self.invariant.hinted (rw (← c.self.view_is) at c.walk-row.ensures.walked));
 }
@@ -33,6 +34,7 @@ mark_at-requires c =
 pub invariant_of-self-2 : goal.invariant_of-self-2
 invariant_of-self-2 c = record {
   kept = c.self.invariant.kept;
+  marked = c.self.invariant.marked;
   hinted = rw c.keep.ensures (hint_kept (slice_get c.self.inside.rows.words) c.self.inside.hints.hints
       (c.args.object % 16) _ c.self.invariant.hinted (rw (← c.self.view_is) at c.walk-row.ensures.walked));
 }
