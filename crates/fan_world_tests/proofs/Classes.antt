@@ -1,28 +1,17 @@
 -- What tells the class of all marks of a group.
-use Rattle.std.proofs.Common.{◌≡◌, ◌∙◌, ℕ, false, List, Some, sym, arith}
+use Rattle.std.proofs.Common.{◌≡◌, ◌∙◌, ℕ, List, Some, sym, arith}
 use Rattle.std.specs.Prelude.{All, ◌==◌, ◌&&◌}
 use Rattle.std.proofs.lemmas.Bool.Decides.{nat_tests}
-use Rattle.std.proofs.lemmas.List.Elements.{All-weaker}
-use Rattle.fan_lists.proofs.Counts.{none_from_count}
 use Rattle.fan_lists.proofs.Finds.{All-find, find_passes}
 use Rattle.fan_bits.specs.declared.class.Class.{Class}
 use Rattle.fan_bits.specs.declared.mark.Mark.{Mark}
-use Rattle.fan_bits.specs.Marks.{IsMarkList, count_of, mark_of}
-use Rattle.fan_marks.proofs.Found.{none_passes}
+use Rattle.fan_bits.specs.Marks.{IsMarkList, mark_of}
 
 -- the marks of a group have a class
 abbrev pub AreOf : ℕ → Class → Mark → Type 0
 AreOf group class mark = mark.group ≡ group → mark.class ≡ class
 
--- where there are none, they have any
-pub none_have : (marks : List Mark) (group : ℕ) (class : Class) → count_of marks group ≡ 0
-    → All (AreOf group class) marks
-none_have marks group class none =
-    All-weaker (λ mark. (mark.group == group) ≡ false) (AreOf group class)
-    (λ mark fails same. absurd (grind (arith, nat_tests, fails, same))) marks
-    (none_passes (λ mark. mark.group == group) marks (none_from_count (λ mark. mark.group == group) marks none))
-
--- and one of them has the class of all
+-- one of them has the class of all
 pub one_tells : (marks : List Mark) (group object : ℕ) (class : Class) (mark : Mark) → IsMarkList marks
     → mark_of marks group object ≡ Some mark → mark.class ≡ class → All (AreOf group class) marks
 one_tells marks group object class mark list found is =

@@ -93,7 +93,8 @@ fn is_in_range(group: u32, object: u32) -> bool
     group >= 1 && object >= 1 && object <= 65_535
 }
 
-// Whether all marks of a group have a class: it has no mark, or one on the first nine objects tells.
+// Whether all marks of a group have a class: it has no mark, or one on the first nine objects
+// tells.
 fn has_class(book: &MarkBook, group: u32, class: Class) -> bool
     ensures { IsTrue result
         → All (λ mark. mark.group ≡ group → mark.class ≡ class) book.now.marks }
